@@ -1,15 +1,13 @@
 //! The search of a block.
 ghost use Rattle.std.specs.Prelude.{◌≡◌, ◌≤◌, ◌<◌, length, IfOk};
 ghost use Rattle.std.specs.Arc.{arc_value};
-ghost use Rattle.pg_match.specs.Machines.{Fits};
-ghost use Rattle.pg_blocks.specs.Lines.{AreShort};
-ghost use Rattle.pg_lines.specs.Search.{terminator_of};
 
 use crate::rows::{Question, assert_rows, bytes_of, halves};
 use pg_blocks::{Block, CutFault};
 use pg_lines::{
     BlockResult, Kind, PatternList, Query, QueryFault, QueryText, Scratch, search_block,
 };
+use pg_selection::Selector;
 use pg_syntax::{FaultKind, ListFault, SyntaxFault};
 use refusing::Refusing;
 use std::alloc::{AllocError, Allocator, Global};
@@ -84,12 +82,8 @@ fn compile<A: Allocator + Copy>(
     alloc: A,
     letters: &str,
     pattern: &[u8],
-) -> Result<Arc<Query<A>, A>, QueryFault> {
-    let query = Query::compile(alloc, text_of(alloc, letters, pattern)?)?;
-    match Arc::new(alloc, query) {
-        Ok(query) => Ok(query),
-        Err(_) => Err(QueryFault::OutOfMemory),
-    }
+) -> Result<Query<A>, QueryFault> {
+    Query::compile(alloc, text_of(alloc, letters, pattern)?)
 }
 
 /// Block 5 of file 7, with these bytes.
@@ -108,14 +102,13 @@ fn block_of<A: Allocator + Copy>(alloc: A, bytes: &[u8]) -> Result<Arc<Block<A>,
 /// What a search finds in a block with these bytes, at most 100.
 fn search_for<A: Allocator + Copy>(
     alloc: A,
-    query: &Arc<Query<A>, A>,
+    query: &Query<A>,
     bytes: &[u8],
 ) -> Result<BlockResult<A>, AllocError>
     requires { length bytes.now ≤ 100 }
 {
     let block = block_of(alloc, bytes)?;
-    let searched: &Query<A> = query;
-    let mut scratch = Scratch::new(alloc, searched.machine())?;
+    let mut scratch = Scratch::new(alloc, query.machine())?;
     search_block(alloc, query, &mut scratch, block)
 }
 
@@ -144,8 +137,9 @@ fn show_found<A: Allocator + Copy>(
     bytes: &[u8],
     out: &mut String,
 ) {
-    let searched: &Query<A> = found.query();
-    if *searched == *query && is_block(found.block(), bytes) {
+    let searched: &Selector<A> = found.selector();
+    let asked: &Selector<A> = query.selector();
+    if *searched == *asked && is_block(found.block(), bytes) {
         let lines = found.lines();
         let runs = found.runs().len();
         let parts = found.parts().len();
@@ -211,19 +205,24 @@ Ff:ab Ff:ab => true
 Ff: Ff: => true";
 
 /// The query of letters and a text, if all letters are those of kinds and options.
-fn query_by(alloc: Global, letters: &str, text: &[u8]) -> Option<Arc<Query>> {
+fn query_by(alloc: Global, letters: &str, text: &[u8]) -> Option<Query> {
     if !are_letters(letters) {
         return None;
     }
     compile(alloc, letters, text).ok()
 }
 
-/// Whether queries are the same, where their texts say so too.
+/// Whether queries select by the same, where their texts say so too.
 fn are_same(one: &Query, other: &Query) -> &'static str {
-    match (*one == *other, *one.text() == *other.text()) {
+    let one_selector: &Selector = one.selector();
+    let other_selector: &Selector = other.selector();
+    match (
+        *one_selector == *other_selector,
+        *one.text() == *other.text(),
+    ) {
         (true, true) => "true",
         (false, false) => "false",
-        _ => "queries and texts differ",
+        _ => "selectors and texts differ",
     }
 }
 

@@ -1,5 +1,5 @@
 //! Sets of strings.
-ghost use Rattle.std.specs.Prelude.{◌≡◌, ◌≤◌, length, IfOk};
+ghost use Rattle.std.specs.Prelude.{◌≤◌, length, IfOk};
 ghost use Rattle.std.specs.List.{All};
 
 use crate::rows::{Question, assert_rows, bytes_of};

@@ -1,7 +1,7 @@
 -- The lines of some bytes (XBD 3.206 Line, 3.195 Incomplete Line).
 use Rattle.std.specs.Prelude.{◌≡◌, ◌≢◌, ℕ, ◌+◌, ◌<◌, ◌≤◌, ◌^◌, ◌⊎◌, List, [], ◌∷◌, ◌++◌, length, slice_index}
 use Rattle.std.specs.List.{Contains, AllByRecursion, flat_map}
-pub use Rattle.pg_syntax.specs.Lines.{lines}
+pub use Rattle.pg_bytes.specs.Lines.{lines}
 
 -- a text without the terminator
 abbrev pub IsLine : ℕ → List ℕ → Type 0

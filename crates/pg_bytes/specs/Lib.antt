@@ -1,3 +1,4 @@
 pub mod Sets
 pub mod Classes
 pub mod ByteSets
+pub mod Lines

@@ -1,5 +1,5 @@
 //! The character classes of the C locale.
-ghost use Rattle.std.specs.Prelude.{◌≡◌, ◌&&◌, None, codes, not, option_map};
+ghost use Rattle.std.specs.Prelude.{◌≡◌, None, codes, option_map};
 ghost use Rattle.pg_bytes.specs.Sets.{between, union, one};
 ghost use Rattle.pg_bytes.specs.Classes.{class, named, alpha, digit, alnum, graph, print, punct, xdigit};
 ghost use Rattle.pg_bytes.specs.Classes.{blank, space, cntrl};

@@ -1,7 +1,7 @@
 -- A status is 0, 1 or 2.
 use Rattle.std.proofs.Common.{◌≤◌, Bool, true, false, List, if◌then◌else◌, ◌&&◌, ℕ, arith, subst, sym}
 use Rattle.std.specs.List.{list_any}
-use Rattle.pg_lines.specs.Search.{Search}
+use Rattle.pg_selection.specs.Search.{Search}
 use Rattle.pg_rows.specs.declared.format.Format.{Format}
 use Rattle.pg_rows.specs.Modes.{is_quiet}
 use Rattle.pg_base.specs.Entries.{Entry}

@@ -5,7 +5,7 @@ use Rattle.pg_walk.specs.Items.{Found, found}
 use Rattle.pg_walk.specs.Left.{BeginsWalk, IsWalk}
 use Rattle.pg_walk.specs.Scopes.{Scope}
 use Rattle.pg_walk.specs.declared.item.Item.{Item}
-use Rattle.pg_lines.specs.Search.{Search, SearchText}
+use Rattle.pg_selection.specs.Search.{Search, SearchText}
 use Rattle.pg_files.specs.Given.{Given, names_in}
 use Rattle.pg_files.specs.Listed.{asked_for, file_paths, files_past, AreOpened, AreSpared, Sought, sought}
 use Rattle.pg_base.specs.Sink.{Stream}

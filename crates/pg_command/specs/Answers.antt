@@ -1,7 +1,7 @@
 -- What a search answers, and what it writes.
 use Rattle.std.specs.Prelude.{◌≡◌, ℕ, ◌^◌, ◌⊎◌, Bool, not, ◌&&◌, List, [], ◌∷◌, codes, length, drop, reverse}
 use Rattle.std.specs.Prelude.{Option, Some, None, Result, Ok, Err}
-use Rattle.pg_lines.specs.Search.{Search}
+use Rattle.pg_selection.specs.Search.{Search}
 use Rattle.pg_walk.specs.Answers.{Answers as Tree}
 use Rattle.pg_walk.specs.Items.{Found}
 use Rattle.pg_walk.specs.Places.{is_standard_input}

@@ -8,7 +8,7 @@ use Rattle.pg_glob.specs.Globs.{pieces_of}
 use Rattle.pg_walk.specs.Scopes.{Scope}
 use Rattle.pg_walk.specs.declared.scope.Devices.{Devices}
 use Rattle.pg_walk.specs.declared.scope.Devices.TheVariants.{ReadOperands, Read as ReadAsFiles, Skip as SkipThem}
-use Rattle.pg_lines.specs.Search.{Patterns, Split, ByLine, SearchText}
+use Rattle.pg_selection.specs.Search.{Patterns, Split, ByLine, SearchText}
 use Rattle.pg_files.specs.Given.{standard_input}
 use Rattle.pg_rows.specs.declared.format.Mode.{Mode}
 use Rattle.pg_rows.specs.Modes.{shows_rows}

@@ -2,7 +2,7 @@
 ghost use Rattle.std.specs.Prelude.{◌≡◌, ◌<◌, ◌∷◌, List, ℕ, map, option_map, IfErr, IfOk, length};
 ghost use Rattle.pg_syntax.specs.Memory.{patterns_of};
 ghost use Rattle.pg_syntax.specs.Slices.{bytes_of};
-ghost use Rattle.pg_lines.specs.Search.{ByLine};
+ghost use Rattle.pg_selection.specs.Search.{ByLine};
 ghost use Rattle.pg_base.specs.Entries.{Ended, Left};
 ghost use Rattle.pg_files.specs.Given.{Given, File};
 ghost use Rattle.pg_words.specs.Filters.{filter_said, filters_of};

@@ -1,6 +1,6 @@
 //! Files in memory, for tests.
 ghost use Rattle.std.specs.Prelude.{◌≡◌, ◌≤◌, ◌+◌, ◌^◌, ◌⊎◌, ◌++◌, ◌∷◌, [], map, min, length, is_some, option_and_then};
-ghost use Rattle.std.specs.Prelude.{option_map, slice_get, IfOk, IfSome, OnOk, OnErr};
+ghost use Rattle.std.specs.Prelude.{option_map, slice_get, IfSome, OnOk, OnErr};
 ghost use Rattle.pg_files.specs.Asking.{ReadGives};
 ghost use Rattle.pg_files.specs.Store.{Opens};
 

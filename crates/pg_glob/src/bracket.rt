@@ -1,6 +1,5 @@
 //! Bracket expressions in globs (XCU 2.13.1, XBD 9.3.5).
 ghost use Rattle.std.specs.Prelude.{◌≡◌, ◌<◌, ◌≤◌, ◌+◌, IfSome, IsTrue, length, option_map, slice_index};
-ghost use Rattle.pg_bytes.specs.ByteSets.{bytes};
 ghost use Rattle.pg_glob.specs.Brackets.{bracket, class_at, class_named, is_enclosed, letters, member, members};
 ghost use Rattle.pg_glob.specs.Brackets.{range_at, range_end, single};
 ghost use Rattle.pg_glob.specs.Views.{set_of, byte_of};

@@ -6,12 +6,12 @@ use Rattle.std.specs.List.{AllByRecursion}
 use Rattle.std.proofs.lemmas.Bool.{ltb-true, ltb-false}
 use Rattle.std.proofs.lemmas.List.{drop_at, take_at, append-nil}
 use Rattle.pg_blocks.specs.Lines.{lines, AreWhole}
-use Rattle.pg_lines.specs.Search.{SearchText, Search, Pattern, search_of, uninverted, terminator_of, terminator}
-use Rattle.pg_lines.specs.Selection.{selects, has_hit, parts}
-use Rattle.pg_lines.specs.Runs.{AllLines, IsNextRun, AreRuns}
-use Rattle.pg_lines.specs.BlockParts.{part_at, parts_of_lines}
+use Rattle.pg_selection.specs.Search.{SearchText, Search, Pattern, search_of, uninverted, terminator_of, terminator}
+use Rattle.pg_selection.specs.Selection.{selects, has_hit, parts}
+use Rattle.pg_selection.specs.Runs.{AllLines, IsNextRun, AreRuns}
+use Rattle.pg_selection.specs.BlockParts.{part_at, parts_of_lines}
 use Rattle.pg_lines.specs.Gathered.{IsNextLine}
-use Rattle.pg_lines.specs.declared.run.Run.{Run}
+use Rattle.pg_selection.specs.declared.run.Run.{Run}
 use Rattle.pg_blocks.specs.declared.span.Span.{Span}
 use Rattle.pg_lines.proofs.GatherLemmas.{closed_run, gap_front}
 use Rattle.pg_blocks.proofs.LineLemmas.{lines-append, whole_append}

@@ -7,10 +7,10 @@ use Rattle.std.specs.List.{AllByRecursion, Any}
 use Rattle.std.proofs.lemmas.List.{take-append-drop, drop-drop, drop_at, take_at, append-nil, length-take-le}
 use Rattle.pg_literal.specs.Literals.{Holds}
 use Rattle.pg_blocks.specs.Lines.{lines, AreWhole, AreShort}
-use Rattle.pg_lines.specs.Search.{SearchText, Search, Pattern, AreTreesOf, search_of, uninverted}
-use Rattle.pg_lines.specs.Search.{terminator_of, terminator}
-use Rattle.pg_lines.specs.Selection.{selects}
-use Rattle.pg_lines.specs.Runs.{AllLines, IsNextRun}
+use Rattle.pg_selection.specs.Search.{SearchText, Search, Pattern, AreTreesOf, search_of, uninverted}
+use Rattle.pg_selection.specs.Search.{terminator_of, terminator}
+use Rattle.pg_selection.specs.Selection.{selects}
+use Rattle.pg_selection.specs.Runs.{AllLines, IsNextRun}
 use Rattle.pg_lines.specs.Gathered.{IsNextLine}
 use Rattle.pg_lines.specs.Literals.{LiteralData, HoldsOne, AreLiterals}
 use Rattle.pg_lines.specs.Candidates.{AreWithout, IsFirstWith}

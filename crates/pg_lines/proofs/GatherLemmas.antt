@@ -5,10 +5,10 @@ use Rattle.std.proofs.Common.{arith, append_assoc, length-append}
 use Rattle.std.proofs.lemmas.Bool.{ltb-true, ltb-false}
 use Rattle.std.proofs.lemmas.List.{drop_at, take_at, append-nil}
 use Rattle.pg_blocks.specs.Lines.{lines, AreWhole}
-use Rattle.pg_lines.specs.Search.{Search, terminator}
-use Rattle.pg_lines.specs.Runs.{AllLines, IsNextRun, AreRuns}
+use Rattle.pg_selection.specs.Search.{Search, terminator}
+use Rattle.pg_selection.specs.Runs.{AllLines, IsNextRun, AreRuns}
 use Rattle.pg_lines.specs.Gathered.{IsNextLine, IsGathered}
-use Rattle.pg_lines.specs.declared.run.Run.{Run}
+use Rattle.pg_selection.specs.declared.run.Run.{Run}
 use Rattle.pg_blocks.specs.declared.span.Span.{Span}
 use Rattle.pg_blocks.proofs.LineLemmas.{lines-append, whole_append}
 use Rattle.pg_lines.proofs.RunLemmas.{all_lines-append}

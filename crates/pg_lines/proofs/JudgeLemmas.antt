@@ -6,7 +6,7 @@ use Rattle.std.specs.Option.{IfSome, IsSomeAnd}
 use Rattle.std.proofs.lemmas.List.{take-map, take-take, take_rest, drop-drop, length-take-le}
 use Rattle.pg_literal.specs.Literals.{as_searched}
 use Rattle.pg_strings.specs.Outcomes.{strings_of}
-use Rattle.pg_lines.specs.Search.{SearchText}
+use Rattle.pg_selection.specs.Search.{SearchText}
 use Rattle.pg_lines.specs.Strings.{IsHead, AreStrings, IsSetOf, AreBlockStrings, JudgesLine}
 use Rattle.pg_lines.specs.declared.literal_set.LiteralSet.{LiteralSet}
 use Rattle.pg_strings.specs.declared.set.StringSet.{StringSet}

@@ -1,6 +1,5 @@
 pub mod BetweenLemmas
 pub mod CandidateLemmas
-pub mod Examples
 pub mod GatherLemmas
 pub mod HeadLemmas
 pub mod HitLemmas
@@ -16,4 +15,3 @@ pub mod PartLemmas
 pub mod PatternLemmas
 pub mod RunLemmas
 pub mod ScanLemmas
-pub mod SameLemmas

@@ -8,8 +8,8 @@ use Rattle.pg_literal.specs.Literals.{Holds}
 use Rattle.pg_literal.specs.declared.literal.Literal.{Literal}
 use Rattle.pg_pattern.specs.Hits.{HasHit as PatternsHaveHit}
 use Rattle.pg_blocks.specs.Lines.{IsLine}
-use Rattle.pg_lines.specs.Search.{SearchText, Pattern, AreTreesOf, bounds_of, terminator_of}
-use Rattle.pg_lines.specs.Same.{same_trees}
+use Rattle.pg_selection.specs.Search.{SearchText, Pattern, AreTreesOf, bounds_of, terminator_of}
+use Rattle.pg_selection.specs.Same.{same_trees}
 use Rattle.pg_lines.specs.Literals.{data_of, IsEnough, AreLiterals}
 
 -- an element as it is seen

@@ -12,8 +12,8 @@ use Rattle.pg_literal.specs.Literals.{as_searched}
 use Rattle.pg_literal.specs.declared.literal.Literal.{Literal}
 use Rattle.pg_literal.proofs.FoldLemmas.{length_searched}
 use Rattle.pg_blocks.specs.Lines.{lines}
-use Rattle.pg_lines.specs.Search.{SearchText, Pattern, AreTreesOf, search_of, uninverted, terminator_of}
-use Rattle.pg_lines.specs.Runs.{AllLines}
+use Rattle.pg_selection.specs.Search.{SearchText, Pattern, AreTreesOf, search_of, uninverted, terminator_of}
+use Rattle.pg_selection.specs.Runs.{AllLines}
 use Rattle.pg_lines.specs.Literals.{LiteralData, data_of, flagged, set_literals, AreLiterals}
 use Rattle.pg_lines.specs.Strings.{IsSetOf}
 use Rattle.pg_lines.specs.declared.literal_set.LiteralSet.{LiteralSet}

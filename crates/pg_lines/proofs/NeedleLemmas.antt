@@ -15,7 +15,7 @@ use Rattle.pg_literal.specs.Rows.{byte_as_searched}
 use Rattle.pg_literal.proofs.FoldLemmas.{length_searched, searched_append}
 use Rattle.pg_blocks.specs.Lines.{lines, IsLine, AreWhole, IsClear, Stops}
 use Rattle.pg_lines.specs.Literals.{LiteralData, AreLiterals}
-use Rattle.pg_lines.specs.Search.{SearchText, terminator_of}
+use Rattle.pg_selection.specs.Search.{SearchText, terminator_of}
 use Rattle.pg_lines.specs.Candidates.{AreWithout, IsFirstWith, literal_of, IsAhead, StandsAt, IsBefore, IsNeedleList}
 use Rattle.pg_lines.specs.declared.needle.Needle.{Needle}
 use Rattle.pg_lines.specs.declared.needle.NeedleList.{NeedleList}

@@ -12,7 +12,7 @@ use Rattle.pg_literal.specs.Rows.{byte_as_searched}
 use Rattle.pg_literal.proofs.FoldLemmas.{length_searched}
 use Rattle.pg_strings.specs.Sets.{SomeStands}
 use Rattle.pg_blocks.specs.Lines.{lines, IsLine, AreWhole, IsClear, Stops}
-use Rattle.pg_lines.specs.Search.{SearchText, Fixed, patterns, terminator_of}
+use Rattle.pg_selection.specs.Search.{SearchText, Fixed, patterns, terminator_of}
 use Rattle.pg_lines.specs.Strings.{IsSetOf}
 use Rattle.pg_strings.specs.Keys.{items_of}
 use Rattle.pg_strings.specs.Outcomes.{strings_of}

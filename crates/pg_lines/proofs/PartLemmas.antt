@@ -14,20 +14,21 @@ use Rattle.pg_pattern.specs.Parts.{AreParts, none, more}
 use Rattle.pg_pattern.proofs.PartLaws.{parts_are_one}
 use Rattle.pg_pattern.proofs.TestLemmas.{hits_decided}
 use Rattle.pg_blocks.specs.Lines.{lines, AreWhole, AreShort, terminated}
-use Rattle.pg_lines.specs.Search.{SearchText, Search, Pattern, Bounds, AreTreesOf, search_of, terminator, bounds_of}
-use Rattle.pg_lines.specs.Selection.{selects, parts, has_hit}
+use Rattle.pg_selection.specs.Search.{SearchText, Search, Pattern, Bounds, AreTreesOf, search_of, terminator, bounds_of}
+use Rattle.pg_selection.specs.Selection.{selects, parts, has_hit}
 use Rattle.pg_lines.specs.Queries.{Compiled, IsCompiled}
-use Rattle.pg_lines.specs.Same.{same_trees}
-use Rattle.pg_lines.specs.Runs.{AllLines}
-use Rattle.pg_lines.specs.BlockParts.{part_at, parts_of_lines}
+use Rattle.pg_selection.specs.Same.{same_trees}
+use Rattle.pg_selection.specs.Runs.{AllLines}
+use Rattle.pg_selection.specs.BlockParts.{part_at, parts_of_lines}
 use Rattle.pg_lines.specs.Gathered.{IsNextLine, IsGathered, parts_before}
-use Rattle.pg_lines.specs.declared.run.Run.{Run}
-use Rattle.pg_lines.specs.declared.run.Part.{Part}
+use Rattle.pg_selection.specs.declared.run.Run.{Run}
+use Rattle.pg_selection.specs.declared.run.Part.{Part}
 use Rattle.pg_blocks.specs.declared.span.Span.{Span}
 use Rattle.pg_blocks.proofs.LineLemmas.{lines-append, whole_append, terminated-lines, length-terminated-cons}
 use Rattle.pg_lines.proofs.GatherLemmas.{passed, behind, before, passed_whole, passed_count, front_is_whole, joined}
 use Rattle.pg_lines.proofs.GatherLemmas.{line_text, front_length}
-use Rattle.pg_lines.proofs.RunLemmas.{lines_apart, all_back}
+use Rattle.pg_selection.proofs.RunLemmas.{lines_apart}
+use Rattle.pg_lines.proofs.RunLemmas.{all_back}
 
 -- a line that is selected since nothing in it is matched has no part
 pub no_parts : (q : Search) (line : List ℕ) → q.text.invert ≡ true → selects q line ≡ true → parts q line ≡ []

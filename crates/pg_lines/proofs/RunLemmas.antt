@@ -5,21 +5,22 @@ use Rattle.std.proofs.Common.{append_assoc, length-append, length-drop}
 use Rattle.std.specs.List.{AllByRecursion, Contains}
 use Rattle.std.proofs.lemmas.Bool.{cases_lt}
 use Rattle.std.proofs.lemmas.List.{take-append-drop, drop_at, length-take-le, get_or-take, get_or-drop, get_or_default}
-use Rattle.std.proofs.lemmas.List.{append-nil, take_at, drop_more, drop-drop, drop_all}
+use Rattle.std.proofs.lemmas.List.{take_at, drop_more, drop-drop, drop_all}
 use Rattle.std.proofs.lemmas.List.Prefix.{at_reads}
 use Rattle.memchr.specs.Find.{OccursAt, Nowhere}
 use Rattle.pg_literal.specs.Literals.{as_searched, Holds}
 use Rattle.pg_literal.specs.Rows.{byte_as_searched}
 use Rattle.pg_literal.proofs.FoldLemmas.{length_searched, searched_append}
 use Rattle.pg_blocks.specs.Lines.{lines, IsLine, AreWhole, AreShort, IsClear, Stops, terminated}
-use Rattle.pg_lines.specs.Search.{Search, terminator}
-use Rattle.pg_lines.specs.Selection.{selects}
-use Rattle.pg_lines.specs.Runs.{AllLines, IsNextRun}
+use Rattle.pg_selection.specs.Search.{Search, terminator}
+use Rattle.pg_selection.specs.Selection.{selects}
+use Rattle.pg_selection.specs.Runs.{AllLines, IsNextRun}
 use Rattle.pg_lines.specs.Gathered.{IsNextLine}
 use Rattle.pg_lines.specs.Literals.{LiteralData, HoldsOne}
 use Rattle.pg_lines.specs.Candidates.{IsLineAt, IsFirstWith}
 use Rattle.pg_lines.specs.declared.needle.Candidate.{Candidate}
-use Rattle.pg_lines.specs.declared.run.Run.{Run}
+use Rattle.pg_selection.specs.declared.run.Run.{Run}
+use Rattle.pg_selection.proofs.RunLemmas.{lines_apart}
 use Rattle.pg_blocks.specs.declared.span.Span.{Span}
 use Rattle.pg_blocks.proofs.LineLemmas.{made, around, lines-line, lines-alone, lines-append, whole_append}
 
@@ -357,23 +358,6 @@ line_around fold end literals l bytes at s k stop found plain alone among flag o
     let below : k < length bytes = omega (arith, size, searched_below) in
     first_found fold end literals l bytes at s k h.0 stop found plain alone among flag o none low h.1 front clear h.3
     (line_some end bytes s k h.0 stop low h.1 below h.3).0 starts ends
-
--- the lines of what stands before a run, of the run, and of what stands behind it
-pub lines_apart : (q : Search) (at seen : ℕ) (bytes : List ℕ) (run : Run) (n : IsNextRun q at seen bytes run)
-    → lines (terminator q) bytes ≡ lines (terminator q) n.gap
-    ++ (lines (terminator q) n.text ++ lines (terminator q) n.later)
-lines_apart q at seen bytes run n =
-    let back : lines (terminator q) (n.text ++ n.later) ≡ lines (terminator q) n.text ++ lines (terminator q) n.later =
-    elim n.text_whole [
-      | inl w ↦ lines-append (terminator q) n.text n.later w
-      | inr e ↦ ap (λ xs. lines (terminator q) (n.text ++ xs)) e
-          ∙ (ap (lines (terminator q)) (append-nil n.text)
-          ∙ sym (ap (λ xs. lines (terminator q) n.text ++ lines (terminator q) xs) e
-          ∙ append-nil (lines (terminator q) n.text)))
-    ] in
-    ap (lines (terminator q)) (n.joins ∙ append_assoc n.gap n.text n.later)
-    ∙ (lines-append (terminator q) n.gap (n.text ++ n.later) n.gap_whole
-    ∙ ap (λ ls. lines (terminator q) n.gap ++ ls) back)
 
 pub all_back : (P : List ℕ → Type 0) (xs ys : List (List ℕ)) → AllByRecursion P (xs ++ ys) → AllByRecursion P ys
 all_back P [] ys h = h

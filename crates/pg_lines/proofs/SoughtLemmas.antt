@@ -1,9 +1,10 @@
 -- Literals that are looked for, few or many.
-use Rattle.std.proofs.Common.{◌<◌, ◌≤◌, ℕ, Option, Some, None, List, length, arith}
-use Rattle.std.specs.Option.{IfSome}
-use Rattle.pg_lines.specs.Search.{SearchText}
+use Rattle.std.proofs.Common.{◌≤◌, ℕ, Option, Some, None, List, arith}
+use Rattle.std.specs.Option.{IfSome, MatchOption}
+use Rattle.pg_selection.specs.Search.{SearchText}
 use Rattle.pg_lines.specs.Literals.{AreLiterals}
 use Rattle.pg_lines.specs.Candidates.{AreNeedles, literals_sought}
+use Rattle.pg_lines.specs.Finding.{HasNoNextHit, IsNextHit}
 use Rattle.pg_lines.specs.declared.needles.Needles.{Needles}
 use Rattle.pg_lines.specs.declared.needles.Needles.TheVariants.{Few, Many, GivenUp, TooSlow}
 use Rattle.pg_blocks.specs.declared.span.Span.{Span}
@@ -29,8 +30,8 @@ needles_later text bytes at later TooSlow low are = are
 -- where a line is found, they are so behind it
 pub needles_behind : {A : Type 0} (text : SearchText) (bytes : List ℕ) (at : ℕ) (needles : Needles A)
     (line : Option Span) → AreNeedles text bytes at needles
-    → IfSome line (λ line. (at ≤ line.start) × (line.start < line.end) × (line.end ≤ length bytes))
+    → MatchOption line (HasNoNextHit text bytes at) (IsNextHit text bytes at)
     → IfSome line (λ line. AreNeedles text bytes line.end needles)
-needles_behind text bytes at needles None are within = tt
-needles_behind text bytes at needles (Some line) are within =
-    needles_later text bytes at line.end needles (omega (arith, within.0, within.1)) are
+needles_behind text bytes at needles None are none = tt
+needles_behind text bytes at needles (Some line) are next =
+    needles_later text bytes at line.end needles (omega (arith, next.within.0, next.within.1)) are

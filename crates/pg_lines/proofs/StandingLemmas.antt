@@ -10,7 +10,7 @@ use Rattle.pg_pattern.specs.Bounds.{MayBegin, MayEnd}
 use Rattle.pg_strings.specs.Sets.{SomeStands}
 use Rattle.pg_strings.specs.Outcomes.{strings_of, IsLongestAt}
 use Rattle.pg_strings.specs.declared.set.StringSet.{StringSet}
-use Rattle.pg_lines.specs.Search.{Bounds, Whole}
+use Rattle.pg_selection.specs.Search.{Bounds, Whole}
 use Rattle.pg_lines.specs.Strings.{IsStringHit, IsNextString, HasNoString, IsLongestHit}
 
 -- each string of a set has a byte

@@ -19,7 +19,7 @@ use Rattle.pg_literal.specs.Rows.{byte_as_searched, IsAlone}
 use Rattle.pg_literal.proofs.RowLemmas.{occurs_nothing, occurs_more, occurs_first}
 use Rattle.pg_literal.proofs.FoldLemmas.{length_searched, searched_append, searched_nothing, searched_one}
 use Rattle.pg_literal.proofs.FoldLemmas.{searched_byte, byte_of_searched, folded_alone}
-use Rattle.pg_lines.specs.Search.{SearchText, Pattern, Kind, Bounds, Any, Word, Whole, Fixed, AreTreesOf, patterns}
+use Rattle.pg_selection.specs.Search.{SearchText, Pattern, Kind, Bounds, Any, Word, Whole, Fixed, AreTreesOf, patterns}
 use Rattle.pg_lines.specs.Strings.{AreStrings, IsStringHit, IsNextString, HasNoString, FindsString, FindsPart}
 use Rattle.pg_lines.specs.declared.strings.NextString.{NextString}
 use Rattle.pg_lines.specs.declared.strings.NextString.TheVariants.{Found, Nowhere, Behind, GaveUp}

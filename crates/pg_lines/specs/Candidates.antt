@@ -5,7 +5,7 @@ use Rattle.std.specs.List.{AllByRecursion, All, Any}
 use Rattle.memchr.specs.Find.{OccursAt}
 use Rattle.pg_literal.specs.Literals.{Holds, as_searched}
 use Rattle.pg_blocks.specs.Lines.{lines, AreWhole}
-use Rattle.pg_lines.specs.Search.{SearchText}
+use Rattle.pg_selection.specs.Search.{SearchText}
 use Rattle.pg_lines.specs.Literals.{LiteralData, HoldsOne, AreLiterals, set_literals}
 use Rattle.pg_lines.specs.declared.needle.Needle.{Needle}
 use Rattle.pg_lines.specs.declared.needle.NeedleList.{NeedleList}

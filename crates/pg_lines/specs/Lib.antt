@@ -1,11 +1,6 @@
-pub mod Search
 pub mod Queries
-pub mod Selection
 pub mod Literals
 pub mod Strings
-pub mod Runs
-pub mod BlockParts
 pub mod Gathered
 pub mod Candidates
-pub mod Searched
-pub mod Same
+pub mod Finding

@@ -7,8 +7,8 @@ use Rattle.pg_literal.specs.declared.literal.Literal.{Literal}
 use Rattle.pg_strings.specs.Outcomes.{strings_of}
 use Rattle.pg_lines.specs.declared.literal_set.LiteralSet.{LiteralSet}
 use Rattle.pg_blocks.specs.Lines.{IsLine}
-use Rattle.pg_lines.specs.Search.{SearchText, Pattern, AreTreesOf, bounds_of, search_of, terminator_of}
-use Rattle.pg_lines.specs.Selection.{HasHit}
+use Rattle.pg_selection.specs.Search.{SearchText, Pattern, AreTreesOf, bounds_of, search_of, terminator_of}
+use Rattle.pg_selection.specs.Selection.{HasHit}
 
 -- a literal as plain data
 pub record LiteralData : Type 0 where

@@ -4,7 +4,7 @@ use Rattle.pg_syntax.specs.ListResults.{IsFirstRefused}
 use Rattle.pg_match.specs.Automata.{Nfa}
 use Rattle.pg_match.specs.Machines.{IsMachineOf}
 use Rattle.pg_match.specs.Sizes.{list_size}
-use Rattle.pg_lines.specs.Search.{SearchText, Pattern, patterns, AreTreesOf, bounds_of}
+use Rattle.pg_selection.specs.Search.{SearchText, Pattern, patterns, AreTreesOf, bounds_of}
 use Rattle.pg_lines.specs.declared.query.QueryFault.{QueryFault}
 use Rattle.pg_lines.specs.declared.query.QueryFault.TheVariants.{Syntax, TooLarge, OutOfMemory}
 

@@ -7,7 +7,7 @@ use Rattle.pg_pattern.specs.Bounds.{MayBegin, MayEnd}
 use Rattle.pg_pattern.specs.Hits.{Hit, IsNext}
 use Rattle.pg_literal.specs.Literals.{as_searched}
 use Rattle.pg_strings.specs.Outcomes.{strings_of}
-use Rattle.pg_lines.specs.Search.{SearchText, Pattern, Bounds, Fixed, AreTreesOf, bounds_of, patterns}
+use Rattle.pg_selection.specs.Search.{SearchText, Pattern, Bounds, Fixed, AreTreesOf, bounds_of, patterns}
 use Rattle.pg_lines.specs.Literals.{AreLiterals, set_literals}
 use Rattle.pg_lines.specs.declared.literal_set.LiteralSet.{LiteralSet}
 use Rattle.pg_lines.specs.declared.strings.BlockStrings.{BlockStrings}

@@ -5,7 +5,6 @@
 //! literals where that is possible and by the automaton else; a [`BlockResult`] keeps them as runs of lines.
 #![tactic(auto)]
 
-mod laws;
 mod literal_set;
 mod may;
 mod needle;
@@ -13,18 +12,12 @@ mod needle_set;
 mod needles;
 mod parts;
 mod query;
-mod result;
-mod run;
-mod same;
 mod search;
 mod strings;
 
-pub use laws::{selection_is_decided, trees_are_one};
 pub use pg_literal::Literal;
 pub use pg_match::{Machine, Scratch};
-pub use pg_pattern::Bounds;
+pub use pg_selection::{BlockResult, QueryText};
 pub use pg_syntax::{Kind, ListFault, PatternList};
-pub use query::{Query, QueryFault, QueryText};
-pub use result::BlockResult;
-pub use run::{Part, Run};
+pub use query::{Query, QueryFault};
 pub use search::search_block;

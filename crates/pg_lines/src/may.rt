@@ -5,8 +5,8 @@ ghost use Rattle.memchr.specs.Find.{OccursAt, Nowhere};
 ghost use Rattle.pg_strings.specs.Sets.{SomeStands};
 ghost use Rattle.pg_strings.specs.Outcomes.{strings_of};
 ghost use Rattle.pg_literal.specs.Literals.{as_searched};
-ghost use Rattle.pg_lines.specs.Search.{Pattern, AreTreesOf, search_of, uninverted};
-ghost use Rattle.pg_lines.specs.Runs.{AllLines};
+ghost use Rattle.pg_selection.specs.Search.{Pattern, AreTreesOf, search_of, uninverted};
+ghost use Rattle.pg_selection.specs.Runs.{AllLines};
 
 use crate::literal_set::LiteralSet;
 use crate::query::Query;

@@ -1,7 +1,7 @@
 //! Where the literals of a query stand in a block.
-ghost use Rattle.std.specs.Prelude.{◌≡◌, ◌⊎◌, ◌<◌, ◌≤◌, ◌==◌, [], length, map, drop, IfOk, IfSome, IfNone, IsSomeAnd};
+ghost use Rattle.std.specs.Prelude.{◌≡◌, ◌⊎◌, ◌<◌, ◌≤◌, ◌==◌, length, map, drop, IfOk, IfSome, IfNone, IsSomeAnd};
 ghost use Rattle.std.specs.List.{All, Any};
-ghost use Rattle.pg_lines.specs.Search.{terminator_of};
+ghost use Rattle.pg_selection.specs.Search.{terminator_of};
 ghost use Rattle.pg_lines.specs.Literals.{data_of};
 ghost use Rattle.pg_lines.specs.Candidates.{literal_of, IsAhead, StandsAt, IsBefore, IsNeedleList};
 ghost use Rattle.pg_lines.specs.Candidates.{AreWithout, IsFirstWith};

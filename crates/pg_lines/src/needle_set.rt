@@ -1,6 +1,6 @@
 //! Where one of many literals stands in a block.
 ghost use Rattle.std.specs.Prelude.{◌≡◌, ◌≤◌, length, drop};
-ghost use Rattle.pg_lines.specs.Search.{terminator_of};
+ghost use Rattle.pg_selection.specs.Search.{terminator_of};
 ghost use Rattle.pg_lines.specs.Literals.{set_literals};
 ghost use Rattle.pg_lines.specs.Candidates.{IsNeedleSet, IsNextCandidate};
 

@@ -1,7 +1,7 @@
 //! The literals of a query, as they are looked for in a block.
 ghost use Rattle.std.specs.Prelude.{◌≡◌, ◌<◌, ◌≤◌, ℕ, List, length, map, false, IfOk, IfSome};
 ghost use Rattle.pg_literal.specs.Literals.{as_searched};
-ghost use Rattle.pg_lines.specs.Search.{SearchText, terminator_of};
+ghost use Rattle.pg_selection.specs.Search.{SearchText, terminator_of};
 ghost use Rattle.pg_lines.specs.Literals.{AreLiterals, data_of, set_literals};
 ghost use Rattle.pg_lines.specs.Candidates.{AreNeedles, literals_sought, IsNextCandidate};
 

@@ -4,16 +4,16 @@ ghost use Rattle.std.specs.Prelude.{if◌then◌else◌, slice_range, IfSome, Ma
 ghost use Rattle.pg_pattern.specs.Hits.{HasNoNext, IsNext};
 ghost use Rattle.pg_match.specs.Machines.{Fits};
 ghost use Rattle.pg_blocks.specs.Lines.{lines};
-ghost use Rattle.pg_lines.specs.Search.{Pattern, AreTreesOf, bounds_of, search_of, terminator_of};
-ghost use Rattle.pg_lines.specs.Selection.{selects, parts};
-ghost use Rattle.pg_lines.specs.BlockParts.{part_at};
+ghost use Rattle.pg_selection.specs.Search.{Pattern, AreTreesOf, bounds_of, search_of, terminator_of};
+ghost use Rattle.pg_selection.specs.Selection.{selects, parts};
+ghost use Rattle.pg_selection.specs.BlockParts.{part_at};
 ghost use Rattle.pg_lines.specs.Strings.{AreBlockStrings, JudgesLine};
 
 use crate::query::Query;
-use crate::run::Part;
 use crate::strings::{BlockStrings, NextString};
 use pg_blocks::{Span, text_of};
 use pg_match::Scratch;
+use pg_selection::Part;
 use std::alloc::{AllocError, Allocator};
 
 /// The next matched part of a line that stands at a place in its block: by the query's strings, where it has such, else

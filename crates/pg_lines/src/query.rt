@@ -1,8 +1,9 @@
 //! What is searched for.
 ghost use Rattle.std.specs.Prelude.{◌≡◌, ◌<◌, length, map, All, IfOk, IfErr, IfSome, IsTrue};
+ghost use Rattle.std.specs.Arc.{arc_value};
 ghost use Rattle.pg_pattern.specs.Patterns.{IsProper};
 ghost use Rattle.pg_pattern.specs.Trees.{pattern};
-ghost use Rattle.pg_lines.specs.Search.{AreTreesOf, Fixed, bounds_of, patterns, terminator_of};
+ghost use Rattle.pg_selection.specs.Search.{AreTreesOf, HasTrees, Fixed, patterns, terminator_of};
 ghost use Rattle.pg_blocks.specs.Lines.{IsLine};
 ghost use Rattle.pg_literal.specs.Literals.{as_searched};
 ghost use Rattle.pg_lines.specs.Literals.{AreLiterals, TellHeads, data_of};
@@ -11,100 +12,15 @@ ghost use Rattle.pg_lines.specs.Queries.{IsCompiled, IsQueryFault};
 ghost use Rattle.pg_lines.specs.declared.query.QueryFault.TheVariants.{OutOfMemory};
 
 use crate::literal_set::{LiteralSet, few_of};
-use pg_blocks::NEWLINE;
 use pg_literal::Literal;
 use pg_match::{BuildFault, Machine};
-use pg_pattern::{Bounds, Tree};
-use pg_syntax::{FaultKind, Kind, ListFault, PatternList, parse_list};
+use pg_pattern::Tree;
+use pg_selection::{QueryText, Selector};
+use pg_syntax::{FaultKind, Kind, ListFault, parse_list};
 use std::alloc::{AllocError, Allocator, Global};
 use std::marker::Model;
+use std::sync::Arc;
 use thiserror::Error;
-
-/// What a query is compiled from: the patterns, and the options that say what they match.
-pub struct QueryText<A: Allocator = Global> {
-    pub kind: Kind,
-    /// All -e texts in their order, then all -f files in theirs.
-    pub lists: Vec<PatternList<A>, A>,
-    /// -i: upper and lower case letters are the same.
-    pub fold: bool,
-    /// -x: only a whole line is matched, also with -w.
-    pub whole: bool,
-    /// -w: no letter, digit or `_` stands right before or behind a match.
-    pub word: bool,
-    /// -v: the lines that are otherwise not selected are selected.
-    pub invert: bool,
-    /// -o: the matched parts of a line are looked for.
-    pub pieces: bool,
-    /// -z: byte 0 ends a line, in place of newline.
-    pub zero: bool,
-}
-
-impl<A: Allocator> Drop for QueryText<A> {
-    fn drop(self) {
-        let QueryText {
-            kind: _,
-            lists: _,
-            fold: _,
-            whole: _,
-            word: _,
-            invert: _,
-            pieces: _,
-            zero: _,
-        } = self;
-    }
-}
-
-impl<A: Allocator> Model for QueryText<A> {
-    ghost use Rattle.std.specs.Prelude.{map};
-    ghost use Rattle.pg_lines.specs.Search.{SearchText};
-
-    ghost Value = { SearchText };
-
-    ghost use Rattle.pg_syntax.specs.Memory.{patterns_of};
-
-    ghost view = { λ t. record {
-      kind = t.kind;
-      lists = map patterns_of t.lists.items;
-      fold = t.fold;
-      whole = t.whole;
-      word = t.word;
-      invert = t.invert;
-      pieces = t.pieces;
-      zero = t.zero;
-    } };
-}
-
-impl<A: Allocator> QueryText<A> {
-    /// Where a match may begin and end.
-    pub(crate) fn bounds(&self) -> Bounds
-        ensures { result ≡ bounds_of self.now }
-    {
-        if self.whole {
-            Bounds::Whole
-        } else if self.word {
-            Bounds::Word
-        } else {
-            Bounds::Any
-        }
-    }
-
-    /// Whether the patterns are fixed strings.
-    fn is_fixed(&self) -> bool
-        ensures { IsTrue result → self.now.kind ≡ Fixed }
-    {
-        match self.kind {
-            Kind::Fixed => true,
-            Kind::Basic | Kind::Extended => false,
-        }
-    }
-
-    /// The byte that ends a line.
-    fn terminator(&self) -> u8
-        ensures { result ≡ terminator_of self.now }
-    {
-        if self.zero { 0 } else { NEWLINE }
-    }
-}
 
 /// Why a text can't be compiled.
 #[derive(Clone, Copy, Debug, PartialEq, Eq, Error)]
@@ -132,7 +48,7 @@ impl From<AllocError> for QueryFault {
 /// patterns, and literals of which each line with a hit holds one, where such were found. Contracts see its text
 /// and the automaton.
 pub struct Query<A: Allocator = Global> {
-    text: QueryText<A>,
+    selector: Arc<Selector<A>, A>,
     machine: Machine<A>,
     /// A few literals, if there are few.
     literals: Vec<Literal<A>, A>,
@@ -143,7 +59,7 @@ pub struct Query<A: Allocator = Global> {
 impl<A: Allocator> Drop for Query<A> {
     fn drop(self) {
         let Query {
-            text: _,
+            selector: _,
             machine: _,
             literals: _,
             literal_set: _,
@@ -153,18 +69,19 @@ impl<A: Allocator> Drop for Query<A> {
 
 impl<A: Allocator> Model for Query<A> {
     ghost use Rattle.std.specs.Prelude.{map, IfSome};
+    ghost use Rattle.std.specs.Arc.{arc_value};
     ghost use Rattle.pg_lines.specs.Literals.{AreLiterals, TellHeads, data_of};
     ghost use Rattle.pg_lines.specs.Strings.{IsSetOf};
     ghost use Rattle.pg_lines.specs.Queries.{Compiled, IsCompiled};
 
     ghost Value = { Compiled };
 
-    ghost view = { λ q. record { text = q.text; machine = q.machine } };
+    ghost view = { λ q. record { text = arc_value q.selector; machine = q.machine } };
 
-    ghost invariant = { λ q. IsCompiled (record { text = q.text; machine = q.machine })
-        × AreLiterals q.text (map data_of q.literals.items)
-        × TellHeads q.text q.literals.items
-        × IfSome q.literal_set (IsSetOf q.text) };
+    ghost invariant = { λ q. IsCompiled (record { text = arc_value q.selector; machine = q.machine })
+        × AreLiterals (arc_value q.selector) (map data_of q.literals.items)
+        × TellHeads (arc_value q.selector) q.literals.items
+        × IfSome q.literal_set (IsSetOf (arc_value q.selector)) };
 }
 
 impl<A: Allocator> Query<A> {
@@ -185,9 +102,10 @@ impl<A: Allocator> Query<A> {
         let trees = trees_of(alloc, &text)?;
         let machine = machine_of(alloc, &text, trees.as_slice())?;
         let literals = literals_of(alloc, &text, trees.as_slice())?;
-        let literal_set = LiteralSet::of(alloc, &literals, text.is_fixed(), text.bounds())?;
+        let literal_set = LiteralSet::of(alloc, &literals, is_fixed(&text), text.bounds())?;
+        let selector = selector_of(alloc, text)?;
         Ok(Query {
-            text,
+            selector,
             machine,
             literals: few_of(alloc, literals),
             literal_set,
@@ -199,7 +117,14 @@ impl<A: Allocator> Query<A> {
         ensures text { result.now ≡ self.now.text }
         ensures compiled { IsCompiled self.now }
     {
-        &self.text
+        self.selector.text()
+    }
+
+    /// What selects its lines: the same text, of which it is known that it can be compiled.
+    pub fn selector(&self) -> &Arc<Selector<A>, A>
+        ensures { arc_value result.now ≡ self.now.text }
+    {
+        &self.selector
     }
 
     /// The automaton of its patterns.
@@ -214,7 +139,7 @@ impl<A: Allocator> Query<A> {
     pub fn terminator(&self) -> u8
         ensures { result ≡ terminator_of self.now.text }
     {
-        self.text.terminator()
+        self.selector.terminator()
     }
 
     /// At most 8 texts of which each line with a hit holds one, so that only lines with one are looked at; none where
@@ -233,6 +158,27 @@ impl<A: Allocator> Query<A> {
         ensures { IfSome result (λ set. IsSetOf self.now.text set.now) }
     {
         self.literal_set.as_ref()
+    }
+}
+
+/// The selector of a text each of whose patterns is an expression.
+fn selector_of<A: Allocator>(
+    alloc: A,
+    text: QueryText<A>,
+) -> Result<Arc<Selector<A>, A>, AllocError>
+    requires { HasTrees text }
+    ensures { IfOk result (λ selector. arc_value selector ≡ text) }
+{
+    Ok(Arc::new(alloc, Selector::new(text))?)
+}
+
+/// Whether the patterns are fixed strings.
+fn is_fixed<A: Allocator>(text: &QueryText<A>) -> bool
+    ensures { IsTrue result → text.now.kind ≡ Fixed }
+{
+    match text.kind {
+        Kind::Fixed => true,
+        Kind::Basic | Kind::Extended => false,
     }
 }
 

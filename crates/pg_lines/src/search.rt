@@ -1,19 +1,18 @@
 //! The search of one block.
-ghost use Rattle.std.specs.Prelude.{◌≡◌, ◌⊎◌, ◌+◌, ◌<◌, ◌≤◌, ◌^◌, ◌++◌, ◌∷◌, [], IfOk, IfSome, IfNone, OnOk, List};
+ghost use Rattle.std.specs.Prelude.{◌≡◌, ◌⊎◌, ◌+◌, ◌<◌, ◌≤◌, ◌^◌, ◌++◌, ◌∷◌, [], IfOk, IfSome, MatchOption, OnOk, List};
 ghost use Rattle.std.specs.Prelude.{length, map, drop, slice_range, true, false, nat_lt, if◌then◌else◌};
 ghost use Rattle.std.specs.Arc.{arc_value};
 ghost use Rattle.pg_literal.specs.Literals.{as_searched};
 ghost use Rattle.pg_match.specs.Machines.{Fits};
-ghost use Rattle.pg_blocks.specs.Lines.{lines, IsLine, AreShort};
-ghost use Rattle.pg_lines.specs.Search.{Search, Pattern, AreTreesOf, search_of};
-ghost use Rattle.pg_lines.specs.Search.{terminator, terminator_of, uninverted};
+ghost use Rattle.pg_blocks.specs.Lines.{lines, AreShort};
+ghost use Rattle.pg_selection.specs.Search.{Search, Pattern, AreTreesOf, search_of, terminator, terminator_of};
+ghost use Rattle.pg_selection.specs.Selection.{has_hit};
+ghost use Rattle.pg_selection.specs.Searched.{IsFound};
 ghost use Rattle.pg_lines.specs.Queries.{IsCompiled};
-ghost use Rattle.pg_lines.specs.Selection.{has_hit};
 ghost use Rattle.pg_lines.specs.Literals.{AreLiterals, TellHeads, data_of};
 ghost use Rattle.pg_lines.specs.Strings.{AreBlockStrings, IsSetOf, JudgesLine};
 ghost use Rattle.pg_lines.specs.Candidates.{AreNeedles, literals_sought};
-ghost use Rattle.pg_lines.specs.Runs.{AllLines, HasRuns};
-ghost use Rattle.pg_lines.specs.BlockParts.{HasParts};
+ghost use Rattle.pg_lines.specs.Finding.{CanSearch, HasNoNextHit, IsNextHit};
 ghost use Rattle.pg_lines.specs.Gathered.{IsNextLine, IsGathered};
 
 use crate::literal_set::{LiteralSet, fixed_strings};
@@ -21,12 +20,11 @@ use crate::needle_set::NextLine;
 use crate::needles::Needles;
 use crate::parts::push_line_parts;
 use crate::query::Query;
-use crate::result::BlockResult;
-use crate::run::{Found, Run};
 use crate::strings::{BlockStrings, NextString, only_head};
 use pg_blocks::{Block, Span, count_lines, line_end, text_of};
 use pg_literal::Literal;
 use pg_match::Scratch;
+use pg_selection::{BlockResult, Found, Run};
 use std::alloc::{AllocError, Allocator};
 use std::sync::Arc;
 
@@ -74,12 +72,8 @@ fn next_matched<A: Allocator>(
     requires fits { Fits scratch.old query.now.machine }
     requires short { AreShort (terminator_of query.now.text) (drop at bytes.now) }
     ensures fits { Fits scratch.new query.now.machine }
-    ensures within { IfSome result (λ line. (at ≤ line.start) × (line.start < line.end)
-        × (line.end ≤ length bytes.now)) }
-    ensures some { (trees : List Pattern) → AreTreesOf query.now.text trees →
-        IfSome result (IsNextLine (search_of (uninverted query.now.text) trees) at (drop at bytes.now)) }
-    ensures none { (trees : List Pattern) → AreTreesOf query.now.text trees →
-        IfNone result (AllLines (search_of (uninverted query.now.text) trees) false (drop at bytes.now)) }
+    ensures found { MatchOption result (HasNoNextHit query.now.text bytes.now at)
+        (IsNextHit query.now.text bytes.now at) }
 {
     let end = query.terminator();
     let rest = &bytes[at..];
@@ -109,12 +103,8 @@ fn next_by_automaton<A: Allocator>(
     requires fits { Fits scratch.old query.now.machine }
     requires short { AreShort (terminator_of query.now.text) (drop at bytes.now) }
     ensures fits { Fits scratch.new query.now.machine }
-    ensures within { IfSome result (λ line. (at ≤ line.start) × (line.start < line.end)
-        × (line.end ≤ length bytes.now)) }
-    ensures some { (trees : List Pattern) → AreTreesOf query.now.text trees →
-        IfSome result (IsNextLine (search_of (uninverted query.now.text) trees) at (drop at bytes.now)) }
-    ensures none { (trees : List Pattern) → AreTreesOf query.now.text trees →
-        IfNone result (AllLines (search_of (uninverted query.now.text) trees) false (drop at bytes.now)) }
+    ensures found { MatchOption result (HasNoNextHit query.now.text bytes.now at)
+        (IsNextHit query.now.text bytes.now at) }
 {
     let strings = BlockStrings::new(None, None, bytes);
     next_matched(query, &strings, scratch, bytes, at)
@@ -130,20 +120,12 @@ fn next_confirmed<A: Allocator>(
     bytes: &[u8],
     at: usize,
 ) -> Option<Span>
-    requires at { at ≤ length bytes.now }
-    requires needles { AreNeedles query.now.text bytes.now at needles.old }
+    requires ready { CanSearch query.now bytes.now strings.now needles.old scratch.old at }
     requires some { 0 < length (literals_sought needles.old) }
-    requires strings { AreBlockStrings query.now.text bytes.now strings.now }
-    requires fits { Fits scratch.old query.now.machine }
-    requires short { AreShort (terminator_of query.now.text) (drop at bytes.now) }
     ensures needles { IfSome result (λ line. AreNeedles query.now.text bytes.now line.end needles.new) }
     ensures fits { Fits scratch.new query.now.machine }
-    ensures within { IfSome result (λ line. (at ≤ line.start) × (line.start < line.end)
-        × (line.end ≤ length bytes.now)) }
-    ensures some { (trees : List Pattern) → AreTreesOf query.now.text trees →
-        IfSome result (IsNextLine (search_of (uninverted query.now.text) trees) at (drop at bytes.now)) }
-    ensures none { (trees : List Pattern) → AreTreesOf query.now.text trees →
-        IfNone result (AllLines (search_of (uninverted query.now.text) trees) false (drop at bytes.now)) }
+    ensures found { MatchOption result (HasNoNextHit query.now.text bytes.now at)
+        (IsNextHit query.now.text bytes.now at) }
 {
     let end = query.terminator();
     let mut from = at;
@@ -179,19 +161,11 @@ fn next_hit<A: Allocator>(
     bytes: &[u8],
     at: usize,
 ) -> Option<Span>
-    requires at { at ≤ length bytes.now }
-    requires needles { AreNeedles query.now.text bytes.now at needles.old }
-    requires strings { AreBlockStrings query.now.text bytes.now strings.now }
-    requires fits { Fits scratch.old query.now.machine }
-    requires short { AreShort (terminator_of query.now.text) (drop at bytes.now) }
+    requires { CanSearch query.now bytes.now strings.now needles.old scratch.old at }
     ensures needles { IfSome result (λ line. AreNeedles query.now.text bytes.now line.end needles.new) }
     ensures fits { Fits scratch.new query.now.machine }
-    ensures within { IfSome result (λ line. (at ≤ line.start) × (line.start < line.end)
-        × (line.end ≤ length bytes.now)) }
-    ensures some { (trees : List Pattern) → AreTreesOf query.now.text trees →
-        IfSome result (IsNextLine (search_of (uninverted query.now.text) trees) at (drop at bytes.now)) }
-    ensures none { (trees : List Pattern) → AreTreesOf query.now.text trees →
-        IfNone result (AllLines (search_of (uninverted query.now.text) trees) false (drop at bytes.now)) }
+    ensures found { MatchOption result (HasNoNextHit query.now.text bytes.now at)
+        (IsNextHit query.now.text bytes.now at) }
 {
     if needles.are_too_slow() {
         return next_by_automaton(query, scratch, bytes, at);
@@ -275,14 +249,9 @@ fn runs_of_hits<A: Allocator + Copy>(
 ) -> Result<Found<A>, AllocError>
     requires compiled { IsCompiled query.now }
     requires upright { query.now.text.invert ≡ false }
-    requires needles { AreNeedles query.now.text bytes.now 0 needles.old }
-    requires strings { AreBlockStrings query.now.text bytes.now strings.now }
-    requires fits { Fits scratch.old query.now.machine }
-    requires short { AreShort (terminator_of query.now.text) bytes.now }
+    requires ready { CanSearch query.now bytes.now strings.now needles.old scratch.old 0 }
     ensures fits { Fits scratch.new query.now.machine }
-    ensures runs { IfOk result (λ found. HasRuns query.now.text bytes.now found.runs.items) }
-    ensures parts { IfOk result (λ found. HasParts query.now.text bytes.now found.parts.items) }
-    ensures lines { IfOk result (λ found. found.lines ≡ length (lines (terminator_of query.now.text) bytes.now)) }
+    ensures found { IfOk result (IsFound query.now.text bytes.now) }
 {
     let end = query.terminator();
     let mut runs = Vec::new(alloc);
@@ -332,14 +301,9 @@ fn runs_between_hits<A: Allocator + Copy>(
 ) -> Result<Found<A>, AllocError>
     requires compiled { IsCompiled query.now }
     requires inverted { query.now.text.invert ≡ true }
-    requires needles { AreNeedles query.now.text bytes.now 0 needles.old }
-    requires strings { AreBlockStrings query.now.text bytes.now strings.now }
-    requires fits { Fits scratch.old query.now.machine }
-    requires short { AreShort (terminator_of query.now.text) bytes.now }
+    requires ready { CanSearch query.now bytes.now strings.now needles.old scratch.old 0 }
     ensures fits { Fits scratch.new query.now.machine }
-    ensures runs { IfOk result (λ found. HasRuns query.now.text bytes.now found.runs.items) }
-    ensures parts { IfOk result (λ found. HasParts query.now.text bytes.now found.parts.items) }
-    ensures lines { IfOk result (λ found. found.lines ≡ length (lines (terminator_of query.now.text) bytes.now)) }
+    ensures found { IfOk result (IsFound query.now.text bytes.now) }
 {
     let end = query.terminator();
     let mut runs = Vec::new(alloc);
@@ -370,14 +334,9 @@ fn selected_runs<A: Allocator + Copy>(
     bytes: &[u8],
 ) -> Result<Found<A>, AllocError>
     requires compiled { IsCompiled query.now }
-    requires needles { AreNeedles query.now.text bytes.now 0 needles.old }
-    requires strings { AreBlockStrings query.now.text bytes.now strings.now }
-    requires fits { Fits scratch.old query.now.machine }
-    requires short { AreShort (terminator_of query.now.text) bytes.now }
+    requires ready { CanSearch query.now bytes.now strings.now needles.old scratch.old 0 }
     ensures fits { Fits scratch.new query.now.machine }
-    ensures runs { IfOk result (λ found. HasRuns query.now.text bytes.now found.runs.items) }
-    ensures parts { IfOk result (λ found. HasParts query.now.text bytes.now found.parts.items) }
-    ensures lines { IfOk result (λ found. found.lines ≡ length (lines (terminator_of query.now.text) bytes.now)) }
+    ensures found { IfOk result (IsFound query.now.text bytes.now) }
 {
     if query.text().invert {
         runs_between_hits(alloc, query, strings, needles, scratch, bytes)
@@ -425,9 +384,7 @@ fn search_by<A: Allocator + Copy>(
     requires fits { Fits scratch.old query.now.machine }
     requires short { AreShort (terminator_of query.now.text) bytes.now }
     ensures fits { Fits scratch.new query.now.machine }
-    ensures runs { IfOk result (λ found. HasRuns query.now.text bytes.now found.runs.items) }
-    ensures parts { IfOk result (λ found. HasParts query.now.text bytes.now found.parts.items) }
-    ensures lines { IfOk result (λ found. found.lines ≡ length (lines (terminator_of query.now.text) bytes.now)) }
+    ensures found { IfOk result (IsFound query.now.text bytes.now) }
 {
     let strings = BlockStrings::new(fixed_strings(set), only_head(query, literals), searched);
     let mut needles = Needles::new(alloc, literals, sought_set(query, set), searched)?;
@@ -444,9 +401,7 @@ fn search_bytes<A: Allocator + Copy>(
     requires fits { Fits scratch.old query.now.machine }
     requires short { AreShort (terminator_of query.now.text) bytes.now }
     ensures fits { Fits scratch.new query.now.machine }
-    ensures runs { IfOk result (λ found. HasRuns query.now.text bytes.now found.runs.items) }
-    ensures parts { IfOk result (λ found. HasParts query.now.text bytes.now found.parts.items) }
-    ensures lines { IfOk result (λ found. found.lines ≡ length (lines (terminator_of query.now.text) bytes.now)) }
+    ensures found { IfOk result (IsFound query.now.text bytes.now) }
 {
     let literals = query.literals();
     let set = query.literal_set();
@@ -464,19 +419,17 @@ fn search_bytes<A: Allocator + Copy>(
 /// error.
 pub fn search_block<A: Allocator + Copy>(
     alloc: A,
-    query: &Arc<Query<A>, A>,
+    query: &Query<A>,
     scratch: &mut Scratch<A>,
     block: Arc<Block<A>, A>,
 ) -> Result<BlockResult<A>, AllocError>
-    requires fits { Fits scratch.old (arc_value query.now).machine }
-    requires short { AreShort (terminator_of (arc_value query.now).text) (arc_value block).bytes }
-    ensures fits { Fits scratch.new (arc_value query.now).machine }
-    ensures found { IfOk result
-        (λ found. found ≡ record { query = (arc_value query.now).text; block = arc_value block }) }
+    requires fits { Fits scratch.old query.now.machine }
+    requires short { AreShort (terminator_of query.now.text) (arc_value block).bytes }
+    ensures fits { Fits scratch.new query.now.machine }
+    ensures found { IfOk result (λ found. found ≡ record { query = query.now.text; block = arc_value block }) }
 {
-    let query = Arc::try_clone(query)?;
-    let searched: &Query<A> = &query;
+    let selector = Arc::try_clone(query.selector())?;
     let lines: &Block<A> = &block;
-    let found = search_bytes(alloc, searched, scratch, lines.bytes.as_slice())?;
-    Ok(BlockResult::new(query, block, found))
+    let found = search_bytes(alloc, query, scratch, lines.bytes.as_slice())?;
+    Ok(BlockResult::new(selector, block, found))
 }

@@ -2,7 +2,7 @@
 //! each match begins with.
 ghost use Rattle.std.specs.Prelude.{◌≡◌, ◌+◌, ◌<◌, ◌≤◌, List, length, IfSome};
 ghost use Rattle.pg_strings.specs.Outcomes.{strings_of};
-ghost use Rattle.pg_lines.specs.Search.{SearchText, Pattern, AreTreesOf, bounds_of};
+ghost use Rattle.pg_selection.specs.Search.{SearchText, Pattern, AreTreesOf, bounds_of};
 ghost use Rattle.pg_lines.specs.Literals.{TellHeads};
 ghost use Rattle.pg_lines.specs.Strings.{IsLongestHit, FindsString, FindsPart, IsHead, JudgesLine};
 

@@ -1,5 +1,5 @@
 //! The texts of alternations within a tree.
-ghost use Rattle.std.specs.Prelude.{◌≡◌, ◌⊎◌, ◌<◌, ℕ, List, [], ◌∷◌, length, map, false, IfOk, IsTrue};
+ghost use Rattle.std.specs.Prelude.{◌≡◌, ◌⊎◌, ◌<◌, [], ◌∷◌, length, map, false, IfOk};
 ghost use Rattle.std.specs.List.{All};
 ghost use Rattle.pg_pattern.specs.Patterns.{Pattern};
 ghost use Rattle.pg_pattern.specs.Trees.{pattern};

@@ -1,13 +1,13 @@
 //! The texts of which each line with a hit holds one.
-ghost use Rattle.std.specs.Prelude.{◌≡◌, ◌⊎◌, ◌<◌, ◌≤◌, ◌++◌, ◌∷◌, ℕ, Bool, List, [], length, map, reverse, true};
-ghost use Rattle.std.specs.Prelude.{IsTrue, IfOk, IfErr, IfSome, IsSome, OnOk};
+ghost use Rattle.std.specs.Prelude.{◌≡◌, ◌<◌, ℕ, List, [], length, map, reverse, true};
+ghost use Rattle.std.specs.Prelude.{IsTrue, IfOk, IfSome, IsSome};
 ghost use Rattle.std.specs.List.{All, AllZip};
 ghost use Rattle.pg_syntax.specs.Grammar.{Spells};
 ghost use Rattle.pg_pattern.specs.Trees.{pattern};
 ghost use Rattle.pg_syntax.specs.declared.pattern_list.Kind.TheVariants.{Fixed};
 ghost use Rattle.pg_pattern.specs.declared.bounds.Bounds.TheVariants.{Any};
 ghost use Rattle.pg_literal.specs.Literals.{as_searched, AreNeeded, AreHeads, AreEnough, AreTexts};
-ghost use Rattle.pg_literal.specs.Rows.{row_of, AreProduct, Multiplies};
+ghost use Rattle.pg_literal.specs.Rows.{row_of, Multiplies};
 ghost use Rattle.pg_literal.specs.Added.{Adds, AddsOnly};
 
 use crate::cost::{FEW, finding_cost, passing_cost};

@@ -662,6 +662,20 @@ told_hit m mem state v b is s lt read one =
       ]
     ]
 
+-- the same where it says that none ends before it or behind it
+pub told_dead : (m : Nfa) (mem : Remembered) (state v b : ℕ) → IsMemoryOf m mem → IsAtRow mem state → b < 256
+    → v ≡ slice_index mem.steps (state + b) → v ≡ 2 → IsHopeless m b (In mem (state / 256))
+told_dead m mem state v b is s lt read two =
+    let cell : state + b ≡ 256 * (state / 256) + b = ap (λ u. u + b) s.row in
+    let here : v ≡ slice_index mem.steps (256 * (state / 256) + b) = read ∙ ap (slice_index mem.steps) cell in
+    elim (subst (Told m mem (state / 256) b) (sym here) (is.told (state / 256) b s.known lt)) [
+      | inl unknown ↦ absurd (unknown.2 two)
+      | inr rest ↦ elim rest [
+        | inl hit ↦ absurd (omega (arith, hit.0, two))
+        | inr more ↦ elim more [ inl dead ↦ dead.1 | inr go ↦ absurd (omega (arith, go.1, go.2, two)) ]
+      ]
+    ]
+
 -- the same of the set that was fetched
 pub hopeless_there : (m : Nfa) (b : ℕ) (S U : ℕ → Type 0) → Same U S → IsHopeless m b S → IsHopeless m b U
 hopeless_there m b S U same h = λ l from p lt s. h l from p lt (stands_at m l from p U S same s)
@@ -677,6 +691,10 @@ ended_so m l from S false first is s to_empty empty h =
 pub finishes_hit : (m : Nfa) (b : ℕ) (S : ℕ → Type 0) → IsRunnable m → HitBefore m b S → Finishes m b S true
 finishes_hit m b S is h = λ l from p s byte end le.
     (λ t. run_before m l from p b S s is byte (omega arith) h, λ run. refl)
+
+pub finishes_dead : (m : Nfa) (b : ℕ) (S : ℕ → Type 0) → IsHopeless m b S → Finishes m b S false
+finishes_dead m b S none = λ l from p s byte end le.
+    (λ t. absurd (true≢false (sym t)), λ run. absurd (none l from p (omega arith) s byte run))
 
 pub finishes_end : (m : Nfa) (b : ℕ) (S U : ℕ → Type 0) (answer : Bool) → IsRunnable m → (HitBefore m b S → ⊥)
     → Goes m b S U

@@ -1,5 +1,5 @@
 -- Values of the program as plain data, without where they lie in memory.
-use Rattle.pg_match.specs.Automata.{Nfa}
+use Rattle.pg_match.specs.Automata.{Nfa, IsRunnable}
 use Rattle.pg_match.specs.StateSets.{Members, Buffers}
 use Rattle.pg_match.specs.Closures.{AreSeeds}
 use Rattle.pg_match.specs.Starts.{AreStarts}
@@ -28,13 +28,11 @@ added s = (members s.current).added + (members s.next).added
 abbrev pub Tells : {A : Type 0} → StateSets A → StateSets A → Type 0
 Tells old new = new.visits + added old ≡ old.visits + added new
 
--- what the automaton keeps as its seeds are the seeds of its start
-abbrev pub HasSeeds : {A : Type 0} → Automaton A → Type 0
-HasSeeds m = AreSeeds m.states.items m.start m.seeds.items
-
--- what the automaton keeps for each byte is what the byte leads to from the seeds
-abbrev pub HasStarts : {A : Type 0} → Automaton A → Type 0
-HasStarts m = AreStarts m.states.items m.seeds.items m.starts.targets.items m.starts.cuts.items m.starts.accepts
+-- an automaton as it is built: a table that can be run, the seeds of its start, and what each byte leads to from these
+pub record IsBuilt {A : Type 0} (m : Automaton A) : Type 0 where
+  pub runs : IsRunnable (nfa m)
+  pub seeds : AreSeeds m.states.items m.start m.seeds.items
+  pub starts : AreStarts m.states.items m.seeds.items m.starts.targets.items m.starts.cuts.items m.starts.accepts
 
 abbrev pub remembered : {A : Type 0} → Cache A → Remembered
 remembered t = record {

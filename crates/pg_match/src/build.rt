@@ -3,11 +3,11 @@ ghost use Rattle.std.specs.Prelude.{◌≡◌, ◌+◌, ◌*◌, ◌<◌, ◌≤
 ghost use Rattle.pg_pattern.specs.Patterns.{Pattern, IsProper, Alt, Rep};
 ghost use Rattle.pg_pattern.specs.Trees.{pattern};
 ghost use Rattle.pg_match.specs.Sizes.{size_of, list_size};
-ghost use Rattle.pg_match.specs.Automata.{IsTidy, IsRunnable, target_below};
+ghost use Rattle.pg_match.specs.Automata.{IsTidy};
 ghost use Rattle.pg_match.specs.Tables.{Pushed, Added, AddedCopies, AddedOptional};
 ghost use Rattle.pg_match.specs.Gaps.{IsHole, IsFilled, Finished, IsGap, Narrowed};
 ghost use Rattle.pg_match.specs.Machines.{IsMachineOf};
-ghost use Rattle.pg_match.specs.Views.{nfa, HasSeeds, HasStarts};
+ghost use Rattle.pg_match.specs.Views.{nfa, IsBuilt};
 
 use crate::automaton::Automaton;
 use crate::closure::seeds;
@@ -44,10 +44,7 @@ pub(crate) fn assemble<A: Allocator + Copy>(
 ) -> Result<Automaton<A>, AllocError>
     requires proper { All IsProper (map pattern trees.now) }
     requires small { list_size (map pattern trees.now) ≤ 65536 }
-    ensures runs { IfOk result (λ m. IsRunnable (nfa m)) }
-    ensures seeds { IfOk result HasSeeds }
-    ensures starts { IfOk result HasStarts }
-    ensures built { IfOk result (λ m. IsMachineOf (nfa m) (map pattern trees.now) bounds) }
+    ensures { IfOk result (λ m. IsBuilt m × IsMachineOf (nfa m) (map pattern trees.now) bounds) }
 {
     let mut states = Vec::new(alloc);
     push(&mut states, State::Accept)?;

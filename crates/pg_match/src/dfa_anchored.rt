@@ -1,13 +1,12 @@
 //! The longest match from a known start, by the remembered sets of the runs that begin there.
 ghost use Rattle.std.specs.Prelude.{◌≡◌, ◌+◌, ◌*◌, ◌<◌, ◌≤◌, ◌^◌, length, IfSome, IsTrue, Some};
-ghost use Rattle.pg_match.specs.Automata.{IsRunnable};
 ghost use Rattle.pg_match.specs.Anchored.{IsAnchoredMemoryOf, start_row, NothingBefore, TellsBegun, begun_of};
 ghost use Rattle.pg_pattern.specs.Bounds.{MayBegin, MayEnd};
 ghost use Rattle.pg_match.specs.Memories.{In, Keeps, Same};
 ghost use Rattle.pg_match.specs.Searches.{IsBest};
 ghost use Rattle.pg_match.specs.StateSets.{IsGood, HaveRoom};
 ghost use Rattle.pg_match.specs.Steps.{Has};
-ghost use Rattle.pg_match.specs.Views.{nfa, members, buffers, remembered, added, HasSeeds, HasStarts, Tells};
+ghost use Rattle.pg_match.specs.Views.{nfa, members, buffers, remembered, added, Tells, IsBuilt};
 
 use crate::automaton::Automaton;
 use crate::dfa_cache::{Cache, DEAD, LOST, SETS};
@@ -52,7 +51,7 @@ fn outcome_at(last: Option<usize>, place: usize) -> Begun
 impl<A: Allocator> Automaton<A> {
     /// What is remembered of the spans that begin at a place.
     pub(crate) fn longest(&self, memory: &Cache<A>, line: &[u8], start: usize) -> Begun
-        requires runs { IsRunnable (nfa self.now) }
+        requires built { IsBuilt self.now }
         requires memory { IsAnchoredMemoryOf (nfa self.now) (remembered memory.now) }
         requires start_in { start ≤ length line.now }
         ensures { TellsBegun (nfa self.now) line.now start result }
@@ -96,7 +95,7 @@ impl<A: Allocator> Automaton<A> {
     /// long as that costs little for each. Answers the place that it comes to, and where the longest span from there
     /// ends, if one begins there.
     fn try_starts(&self, memory: &Cache<A>, line: &[u8], start: usize) -> (usize, Option<usize>)
-        requires runs { IsRunnable (nfa self.now) }
+        requires built { IsBuilt self.now }
         requires memory { IsAnchoredMemoryOf (nfa self.now) (remembered memory.now) }
         requires start_in { start ≤ length line.now }
         ensures onward { (start ≤ result.0) × (result.0 ≤ length line.now) }
@@ -126,7 +125,7 @@ impl<A: Allocator> Automaton<A> {
 
     /// The row of a set, or 0 where there is no room.
     fn keep_alone(&self, memory: &mut Cache<A>, set: &StateSet<A>) -> usize
-        requires runs { IsRunnable (nfa self.now) }
+        requires built { IsBuilt self.now }
         requires memory { IsAnchoredMemoryOf (nfa self.now) (remembered memory.old) }
         requires good { IsGood (members set.now) }
         requires size { length set.now.marks.items ≡ length self.now.states.items }
@@ -156,9 +155,7 @@ impl<A: Allocator> Automaton<A> {
         row: usize,
         byte: u8,
     ) -> Option<usize>
-        requires runs { IsRunnable (nfa self.now) }
-        requires seeds { HasSeeds self.now }
-        requires starts { HasStarts self.now }
+        requires built { IsBuilt self.now }
         requires room { HaveRoom (buffers sets.old) (length self.now.states.items) }
         requires memory { IsAnchoredMemoryOf (nfa self.now) (remembered memory.old) }
         requires known { row ≤ memory.old.count }
@@ -195,7 +192,7 @@ impl<A: Allocator> Automaton<A> {
 
     /// Learns whether a match ends where a line does, at a row.
     fn learn_end(&self, sets: &mut StateSets<A>, memory: &mut Cache<A>, row: usize)
-        requires runs { IsRunnable (nfa self.now) }
+        requires built { IsBuilt self.now }
         requires room { HaveRoom (buffers sets.old) (length self.now.states.items) }
         requires memory { IsAnchoredMemoryOf (nfa self.now) (remembered memory.old) }
         requires known { row ≤ memory.old.count }
@@ -215,7 +212,7 @@ impl<A: Allocator> Automaton<A> {
 
     /// Adds the next of the first two rows, those of a start, if there is room.
     fn first_alone(&self, sets: &mut StateSets<A>, memory: &mut Cache<A>) -> bool
-        requires runs { IsRunnable (nfa self.now) }
+        requires built { IsBuilt self.now }
         requires room { HaveRoom (buffers sets.old) (length self.now.states.items) }
         requires memory { IsAnchoredMemoryOf (nfa self.now) (remembered memory.old) }
         requires few { memory.old.count < 2 }
@@ -233,9 +230,7 @@ impl<A: Allocator> Automaton<A> {
 
     /// Learns more of the runs that begin at a place of a line, as far as the visits allow.
     fn study_from(&self, sets: &mut StateSets<A>, memory: &mut Cache<A>, line: &[u8], start: usize)
-        requires runs { IsRunnable (nfa self.now) }
-        requires seeds { HasSeeds self.now }
-        requires starts { HasStarts self.now }
+        requires built { IsBuilt self.now }
         requires room { HaveRoom (buffers sets.old) (length self.now.states.items) }
         requires memory { IsAnchoredMemoryOf (nfa self.now) (remembered memory.old) }
         requires short { length line.now ≤ 2 ^ 30 }
@@ -279,9 +274,7 @@ impl<A: Allocator> Automaton<A> {
         place: usize,
         best: Option<(usize, usize)>,
     )
-        requires runs { IsRunnable (nfa self.now) }
-        requires seeds { HasSeeds self.now }
-        requires starts { HasStarts self.now }
+        requires built { IsBuilt self.now }
         requires room { HaveRoom (buffers sets.old) (length self.now.states.items) }
         requires memory { IsAnchoredMemoryOf (nfa self.now) (remembered memory.old) }
         requires short { length line.now ≤ 2 ^ 30 }
@@ -307,9 +300,7 @@ impl<A: Allocator> Automaton<A> {
         line: &[u8],
         start: usize,
     ) -> Option<(usize, usize)>
-        requires runs { IsRunnable (nfa self.now) }
-        requires seeds { HasSeeds self.now }
-        requires starts { HasStarts self.now }
+        requires built { IsBuilt self.now }
         requires room { HaveRoom (buffers sets.old) (length self.now.states.items) }
         requires anchored { IsAnchoredMemoryOf (nfa self.now) (remembered anchored.old) }
         requires short { length line.now ≤ 2 ^ 30 }

@@ -1,11 +1,10 @@
 //! How a walk by remembered sets goes past a step that isn't remembered, leaves the table and comes back to it.
 ghost use Rattle.std.specs.Prelude.{◌≡◌, ◌+◌, ◌*◌, ◌<◌, ◌≤◌, ◌^◌, length};
-ghost use Rattle.pg_match.specs.Automata.{IsRunnable};
 ghost use Rattle.pg_match.specs.StateSets.{HaveRoom};
 ghost use Rattle.pg_match.specs.Steps.{Has};
 ghost use Rattle.pg_match.specs.Starts.{StandsUnseeded};
 ghost use Rattle.pg_match.specs.Memories.{IsMemoryOf, IsCursor, Crosses, reached};
-ghost use Rattle.pg_match.specs.Views.{nfa, members, buffers, remembered, HasSeeds, HasStarts, Tells};
+ghost use Rattle.pg_match.specs.Views.{nfa, members, buffers, remembered, Tells, IsBuilt};
 
 use crate::automaton::Automaton;
 use crate::dfa_cache::{Cache, LOST};
@@ -46,9 +45,7 @@ impl<A: Allocator> Automaton<A> {
         place: usize,
         cursor: Cursor,
     ) -> Crossed
-        requires runs { IsRunnable (nfa self.now) }
-        requires seeds { HasSeeds self.now }
-        requires starts { HasStarts self.now }
+        requires built { IsBuilt self.now }
         requires room { HaveRoom (buffers sets.old) (length self.now.states.items) }
         requires memory { IsMemoryOf (nfa self.now) (remembered memory.old) }
         requires short { length line.now ≤ 2 ^ 30 }
@@ -86,9 +83,7 @@ impl<A: Allocator> Automaton<A> {
         line: &[u8],
         cursor: Cursor,
     ) -> Crossed
-        requires runs { IsRunnable (nfa self.now) }
-        requires seeds { HasSeeds self.now }
-        requires starts { HasStarts self.now }
+        requires built { IsBuilt self.now }
         requires room { HaveRoom (buffers sets.old) (length self.now.states.items) }
         requires memory { IsMemoryOf (nfa self.now) (remembered memory.old) }
         requires short { length line.now ≤ 2 ^ 30 }
@@ -130,9 +125,7 @@ impl<A: Allocator> Automaton<A> {
         line: &[u8],
         cursor: Cursor,
     ) -> Crossed
-        requires runs { IsRunnable (nfa self.now) }
-        requires seeds { HasSeeds self.now }
-        requires starts { HasStarts self.now }
+        requires built { IsBuilt self.now }
         requires room { HaveRoom (buffers sets.old) (length self.now.states.items) }
         requires memory { IsMemoryOf (nfa self.now) (remembered memory.old) }
         requires some { 1 ≤ memory.old.count }

@@ -2,7 +2,6 @@
 ghost use Rattle.std.specs.Prelude.{◌≡◌, ℕ, ◌+◌, ◌*◌, ◌/◌, ◌<◌, ◌≤◌, ◌^◌, ◌↔◌, ◌⊎◌};
 ghost use Rattle.std.specs.Prelude.{length, IsTrue, IfSome, List, true, false, slice_get};
 ghost use Rattle.pg_pattern.specs.Patterns.{Pattern};
-ghost use Rattle.pg_match.specs.Automata.{IsRunnable};
 ghost use Rattle.pg_pattern.specs.Hits.{HasHit};
 ghost use Rattle.pg_match.specs.Machines.{Agrees};
 ghost use Rattle.pg_pattern.specs.declared.bounds.Bounds.TheVariants.{Whole};
@@ -10,7 +9,7 @@ ghost use Rattle.pg_match.specs.StateSets.{IsGood, HaveRoom};
 ghost use Rattle.pg_match.specs.Stands.{HasRun};
 ghost use Rattle.pg_match.specs.Steps.{Has, Starts, IsQuiet, IsSpent};
 ghost use Rattle.pg_match.specs.Memories.{IsMemoryOf, In, fresh_at, Same, Keeps, IsAtRow, StandsAt, Learned, Finishes};
-ghost use Rattle.pg_match.specs.Views.{nfa, members, buffers, remembered, added, HasSeeds, HasStarts, Remembers, Tells};
+ghost use Rattle.pg_match.specs.Views.{nfa, members, buffers, remembered, added, Remembers, Tells, IsBuilt};
 
 use crate::automaton::Automaton;
 use crate::dfa_cache::{Cache, DEAD, HIT, LOST};
@@ -62,7 +61,7 @@ fn are_quiet<A: Allocator>(states: &[State], set: &StateSet<A>) -> bool
 impl<A: Allocator> Automaton<A> {
     /// Whether runs that begin further right do so in a set, or not at all.
     fn begins_in(&self, set: &StateSet<A>) -> bool
-        requires runs { IsRunnable (nfa self.now) }
+        requires built { IsBuilt self.now }
         requires size { length set.now.marks.items ≡ length self.now.states.items }
         ensures { IsTrue result → Has (members set.now) self.now.start ⊎ (self.now.bounds ≡ Whole) }
     {
@@ -75,7 +74,7 @@ impl<A: Allocator> Automaton<A> {
     /// Whether no match ends at a place inside a line whose set this is, or anywhere behind it, as far as the states
     /// tell.
     fn is_dead(&self, set: &StateSet<A>) -> bool
-        requires runs { IsRunnable (nfa self.now) }
+        requires built { IsBuilt self.now }
         requires good { IsGood (members set.now) }
         requires size { length set.now.marks.items ≡ length self.now.states.items }
         ensures { IsTrue result → IsSpent (nfa self.now) (Has (members set.now)) }
@@ -114,7 +113,7 @@ impl<A: Allocator> Automaton<A> {
         row: usize,
         byte: u8,
     ) -> Next
-        requires runs { IsRunnable (nfa self.now) }
+        requires built { IsBuilt self.now }
         requires room { HaveRoom (buffers sets.old) (length self.now.states.items) }
         requires memory { IsMemoryOf (nfa self.now) (remembered memory.old) }
         requires known { row ≤ memory.old.count }
@@ -162,7 +161,7 @@ impl<A: Allocator> Automaton<A> {
         from: usize,
         state: u32,
     ) -> (u32, usize)
-        requires runs { IsRunnable (nfa self.now) }
+        requires built { IsBuilt self.now }
         requires memory { IsMemoryOf (nfa self.now) (remembered memory.now) }
         requires from_in { from < length line.now }
         requires row { IsAtRow (remembered memory.now) state }
@@ -208,7 +207,7 @@ impl<A: Allocator> Automaton<A> {
 
     /// Sees to the first row, if there is room, at the begin of a search.
     pub(crate) fn first(&self, sets: &mut StateSets<A>, memory: &mut Cache<A>) -> bool
-        requires runs { IsRunnable (nfa self.now) }
+        requires built { IsBuilt self.now }
         requires room { HaveRoom (buffers sets.old) (length self.now.states.items) }
         requires memory { IsMemoryOf (nfa self.now) (remembered memory.old) }
         requires visits { sets.old.visits < 2 ^ 98 }
@@ -230,7 +229,7 @@ impl<A: Allocator> Automaton<A> {
 
     /// Whether a match ends right before or behind the last byte of a line, if that is remembered.
     pub(crate) fn recall_end(&self, memory: &Cache<A>, state: u32, byte: u8) -> Option<bool>
-        requires runs { IsRunnable (nfa self.now) }
+        requires built { IsBuilt self.now }
         requires memory { IsMemoryOf (nfa self.now) (remembered memory.now) }
         requires row { IsAtRow (remembered memory.now) state }
         ensures { IfSome result (Finishes (nfa self.now) byte (In (remembered memory.now) (state / 256))) }
@@ -256,7 +255,7 @@ impl<A: Allocator> Automaton<A> {
         state: u32,
         byte: u8,
     ) -> bool
-        requires runs { IsRunnable (nfa self.now) }
+        requires built { IsBuilt self.now }
         requires room { HaveRoom (buffers sets.old) (length self.now.states.items) }
         requires memory { IsMemoryOf (nfa self.now) (remembered memory.old) }
         requires row { IsAtRow (remembered memory.old) state }
@@ -285,9 +284,7 @@ impl<A: Allocator> Automaton<A> {
 
     /// Whether some span of a line that isn't empty is a hit, by what is remembered.
     fn recall(&self, sets: &mut StateSets<A>, memory: &mut Cache<A>, line: &[u8]) -> bool
-        requires runs { IsRunnable (nfa self.now) }
-        requires seeds { HasSeeds self.now }
-        requires starts { HasStarts self.now }
+        requires built { IsBuilt self.now }
         requires room { HaveRoom (buffers sets.old) (length self.now.states.items) }
         requires memory { IsMemoryOf (nfa self.now) (remembered memory.old) }
         requires bytes { 1 ≤ length line.now }
@@ -327,9 +324,7 @@ impl<A: Allocator> Automaton<A> {
         memory: &mut Option<Cache<A>>,
         line: &[u8],
     ) -> bool
-        requires runs { IsRunnable (nfa self.now) }
-        requires seeds { HasSeeds self.now }
-        requires starts { HasStarts self.now }
+        requires built { IsBuilt self.now }
         requires room { HaveRoom (buffers sets.old) (length self.now.states.items) }
         requires memory { Remembers memory.old (nfa self.now) }
         requires short { length line.now ≤ 2 ^ 30 }

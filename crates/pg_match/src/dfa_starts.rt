@@ -1,15 +1,15 @@
 //! What remembered sets tell of the hits of a line from a place on, before any marks are set.
-ghost use Rattle.std.specs.Prelude.{◌≡◌, ◌+◌, ◌*◌, ◌/◌, ◌<◌, ◌≤◌, ◌^◌, length, IfSome, IsTrue, List, MatchOption, Some};
+ghost use Rattle.std.specs.Prelude.{◌≡◌, ◌+◌, ◌*◌, ◌/◌, ◌<◌, ◌≤◌, ◌^◌, length, IsTrue, List, MatchOption, Some};
 ghost use Rattle.pg_pattern.specs.Patterns.{Pattern};
-ghost use Rattle.pg_match.specs.Automata.{IsRunnable};
 ghost use Rattle.pg_pattern.specs.Bounds.{MayBegin, MayEnd};
 ghost use Rattle.pg_pattern.specs.Hits.{HasNoNext, IsNext};
 ghost use Rattle.pg_match.specs.Machines.{Agrees};
 ghost use Rattle.pg_match.specs.StateSets.{HaveRoom};
 ghost use Rattle.pg_match.specs.Searches.{IsBest};
+ghost use Rattle.pg_match.specs.Closures.{AreSeeds};
 ghost use Rattle.pg_match.specs.Steps.{EndsBehind};
-ghost use Rattle.pg_match.specs.Memories.{IsMemoryOf, IsAtRow, In, Finishes, HasSkimmed, Skimmed};
-ghost use Rattle.pg_match.specs.Views.{nfa, buffers, remembered, added, HasSeeds, HasStarts, Remembers};
+ghost use Rattle.pg_match.specs.Memories.{IsMemoryOf, HasSkimmed, Skimmed};
+ghost use Rattle.pg_match.specs.Views.{nfa, buffers, remembered, added, Remembers, IsBuilt};
 ghost use Rattle.pg_match.specs.Views.{RemembersAnchored, Tells};
 
 use crate::automaton::Automaton;
@@ -42,7 +42,7 @@ impl<A: Allocator> Automaton<A> {
         state: u32,
         place: usize,
     ) -> (u32, usize, usize)
-        requires runs { IsRunnable (nfa self.now) }
+        requires built { IsBuilt self.now }
         requires memory { IsMemoryOf (nfa self.now) (remembered memory.now) }
         requires skimmed { HasSkimmed (nfa self.now) (remembered memory.now) line.now from place state from }
         ensures { HasSkimmed (nfa self.now) (remembered memory.now) line.now from result.1 result.0 result.2 }
@@ -84,7 +84,7 @@ impl<A: Allocator> Automaton<A> {
 
     /// Looks for hits from a place on in a line that isn't empty, by what is remembered.
     pub(crate) fn skim(&self, memory: &Cache<A>, line: &[u8], from: usize) -> Skim
-        requires runs { IsRunnable (nfa self.now) }
+        requires built { IsBuilt self.now }
         requires memory { IsMemoryOf (nfa self.now) (remembered memory.now) }
         requires bytes { 1 ≤ length line.now }
         requires from_in { from ≤ length line.now }
@@ -127,7 +127,7 @@ impl<A: Allocator> Automaton<A> {
 
     /// Learns more of a line that isn't empty, from a place on, as far as the visits allow.
     fn study(&self, sets: &mut StateSets<A>, memory: &mut Cache<A>, line: &[u8], from: usize)
-        requires runs { IsRunnable (nfa self.now) }
+        requires built { IsBuilt self.now }
         requires room { HaveRoom (buffers sets.old) (length self.now.states.items) }
         requires memory { IsMemoryOf (nfa self.now) (remembered memory.old) }
         requires bytes { 1 ≤ length line.now }
@@ -178,7 +178,7 @@ impl<A: Allocator> Automaton<A> {
 
     /// Whether some seed reads the byte, and a match ends behind it for each that does.
     fn ends_behind(&self, byte: u8) -> bool
-        requires seeds { HasSeeds self.now }
+        requires { AreSeeds self.now.states.items self.now.start self.now.seeds.items }
         ensures { IsTrue result → EndsBehind self.now.states.items self.now.seeds.items byte }
     {
         let mut some = false;
@@ -198,8 +198,7 @@ impl<A: Allocator> Automaton<A> {
 
     /// Whether the best span from a place on is found to be the byte there alone.
     fn is_one_byte(&self, line: &[u8], place: usize) -> bool
-        requires runs { IsRunnable (nfa self.now) }
-        requires seeds { HasSeeds self.now }
+        requires built { IsBuilt self.now }
         requires place { place ≤ length line.now }
         ensures { IsTrue result → IsBest self.now.states.items line.now self.now.start
             (MayBegin self.now.bounds line.now) (MayEnd self.now.bounds line.now) place (length line.now + 1)
@@ -222,9 +221,7 @@ impl<A: Allocator> Automaton<A> {
         line: &[u8],
         from: usize,
     ) -> Option<(usize, usize)>
-        requires runs { IsRunnable (nfa self.now) }
-        requires seeds { HasSeeds self.now }
-        requires starts { HasStarts self.now }
+        requires built { IsBuilt self.now }
         requires room { HaveRoom (buffers sets.old) (length self.now.states.items) }
         requires memory { IsMemoryOf (nfa self.now) (remembered memory.old) }
         requires anchored { RemembersAnchored anchored.old (nfa self.now) }
@@ -269,9 +266,7 @@ impl<A: Allocator> Automaton<A> {
         line: &[u8],
         from: usize,
     ) -> Option<(usize, usize)>
-        requires runs { IsRunnable (nfa self.now) }
-        requires seeds { HasSeeds self.now }
-        requires starts { HasStarts self.now }
+        requires built { IsBuilt self.now }
         requires room { HaveRoom (buffers sets.old) (length self.now.states.items) }
         requires memory { Remembers memory.old (nfa self.now) }
         requires anchored { RemembersAnchored anchored.old (nfa self.now) }

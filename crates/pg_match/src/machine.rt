@@ -40,16 +40,15 @@ pub struct Machine<A: Allocator = Global> {
 
 impl<A: Allocator> Model for Machine<A> {
     ghost use Rattle.std.specs.Arc.{arc_value};
-    ghost use Rattle.pg_match.specs.Automata.{Nfa, IsRunnable};
+    ghost use Rattle.pg_match.specs.Automata.{Nfa};
     ghost use Rattle.pg_match.specs.Machines.{IsOfSome};
-    ghost use Rattle.pg_match.specs.Views.{nfa, HasSeeds, HasStarts};
+    ghost use Rattle.pg_match.specs.Views.{nfa, IsBuilt};
 
     ghost Value = { Nfa };
 
     ghost view = { λ m. nfa (arc_value m.automaton) };
 
-    ghost invariant = { λ m. IsRunnable (nfa (arc_value m.automaton)) × HasSeeds (arc_value m.automaton)
-        × HasStarts (arc_value m.automaton) × IsOfSome (nfa (arc_value m.automaton)) };
+    ghost invariant = { λ m. IsBuilt (arc_value m.automaton) × IsOfSome (nfa (arc_value m.automaton)) };
 }
 
 /// The room that searches with one machine need, so that they ask for no memory, and what they remember from line to

@@ -1,12 +1,12 @@
 //! The search for any match at all, which needs no marks.
 ghost use Rattle.std.specs.Prelude.{◌≡◌, ℕ, ◌+◌, ◌*◌, ◌<◌, ◌≤◌, ◌^◌, ◌↔◌, length, IsTrue, IsNone, true, false};
-ghost use Rattle.pg_match.specs.Automata.{IsTidy, IsRunnable};
+ghost use Rattle.pg_match.specs.Automata.{IsTidy};
 ghost use Rattle.pg_match.specs.StateSets.{IsGood, HaveRoom, CountedAnew};
 ghost use Rattle.pg_match.specs.Steps.{Spread, Closed, Aimed, Has, Goes, Starts, HitBefore, AnswersEnd, ReadsNone};
 ghost use Rattle.pg_match.specs.Steps.{begins_after, ends_before};
 ghost use Rattle.pg_match.specs.Stands.{HasRun};
 ghost use Rattle.pg_match.specs.Starts.{WithSeeds, Planted, GoesOn, StandsUnseeded, Searched};
-ghost use Rattle.pg_match.specs.Views.{nfa, members, buffers, HasSeeds, HasStarts, Tells};
+ghost use Rattle.pg_match.specs.Views.{nfa, members, buffers, Tells, IsBuilt};
 
 use crate::automaton::Automaton;
 use crate::search::StateSets;
@@ -112,7 +112,7 @@ fn ends_before(bounds: Bounds, byte: u8) -> bool
 impl<A: Allocator> Automaton<A> {
     /// Makes the set of a start at a line's first place, or else inside a line, but for what needs the line's end.
     pub(crate) fn begin(&self, sets: &mut StateSets<A>, first: bool)
-        requires runs { IsRunnable (nfa self.now) }
+        requires built { IsBuilt self.now }
         requires room { HaveRoom (buffers sets.old) (length self.now.states.items) }
         requires visits { sets.old.visits < 2 ^ 100 }
         ensures room { HaveRoom (buffers sets.new) (length self.now.states.items) }
@@ -129,7 +129,7 @@ impl<A: Allocator> Automaton<A> {
     /// Goes on to the set behind a byte, but for what needs the line's end. Answers whether no state of the old set
     /// reads the byte.
     pub(crate) fn go(&self, sets: &mut StateSets<A>, byte: u8) -> bool
-        requires runs { IsRunnable (nfa self.now) }
+        requires built { IsBuilt self.now }
         requires room { HaveRoom (buffers sets.old) (length self.now.states.items) }
         requires visits { sets.old.visits < 2 ^ 100 }
         ensures room { HaveRoom (buffers sets.new) (length self.now.states.items) }
@@ -151,7 +151,7 @@ impl<A: Allocator> Automaton<A> {
 
     /// Whether a match ends right before a byte.
     pub(crate) fn hits_before(&self, set: &StateSet<A>, byte: u8) -> bool
-        requires runs { IsRunnable (nfa self.now) }
+        requires built { IsBuilt self.now }
         requires size { length set.now.marks.items ≡ length self.now.states.items }
         ensures { IsTrue result ↔ HitBefore (nfa self.now) byte (Has (members set.now)) }
     {
@@ -160,7 +160,7 @@ impl<A: Allocator> Automaton<A> {
 
     /// Whether a match ends where the line does. The set gets what needs the line's end.
     pub(crate) fn hits_at_end(&self, sets: &mut StateSets<A>, is_empty: bool) -> bool
-        requires runs { IsRunnable (nfa self.now) }
+        requires built { IsBuilt self.now }
         requires room { HaveRoom (buffers sets.old) (length self.now.states.items) }
         requires visits { sets.old.visits < 2 ^ 100 }
         ensures room { HaveRoom (buffers sets.new) (length self.now.states.items) }
@@ -176,9 +176,7 @@ impl<A: Allocator> Automaton<A> {
 
     /// Adds the states that a byte leads to from the seeds.
     fn plant(&self, next: &mut StateSet<A>, byte: u8)
-        requires runs { IsRunnable (nfa self.now) }
-        requires seeds { HasSeeds self.now }
-        requires starts { HasStarts self.now }
+        requires built { IsBuilt self.now }
         requires good { IsGood (members next.old) }
         requires size { length next.old.marks.items ≡ length self.now.states.items }
         ensures { Planted self.now.states.items self.now.seeds.items byte (members next.old) (members next.new) }
@@ -193,9 +191,7 @@ impl<A: Allocator> Automaton<A> {
     /// Goes on to the set behind a byte as `go` does, but for starts behind it. Those before it are added only as far
     /// as they read the byte, and only where a match may begin there.
     pub(crate) fn go_on(&self, sets: &mut StateSets<A>, byte: u8, begins: bool)
-        requires runs { IsRunnable (nfa self.now) }
-        requires seeds { HasSeeds self.now }
-        requires starts { HasStarts self.now }
+        requires built { IsBuilt self.now }
         requires room { HaveRoom (buffers sets.old) (length self.now.states.items) }
         requires visits { sets.old.visits < 2 ^ 100 }
         ensures room { HaveRoom (buffers sets.new) (length self.now.states.items) }
@@ -216,8 +212,7 @@ impl<A: Allocator> Automaton<A> {
     /// Whether a match ends right before a byte, of the runs in a set or of one that starts there, if a match may
     /// begin.
     fn hits_here(&self, set: &StateSet<A>, byte: u8, begins: bool) -> bool
-        requires runs { IsRunnable (nfa self.now) }
-        requires starts { HasStarts self.now }
+        requires built { IsBuilt self.now }
         requires size { length set.now.marks.items ≡ length self.now.states.items }
         ensures { IsTrue result ↔ HitBefore (nfa self.now) byte
             (WithSeeds self.now.seeds.items (IsTrue begins) (Has (members set.now))) }
@@ -228,8 +223,7 @@ impl<A: Allocator> Automaton<A> {
     /// Whether a match ends where a line does that isn't empty, of the runs in a set or of one that starts there, if a
     /// match may begin. The set gets what needs the line's end.
     fn hits_behind(&self, sets: &mut StateSets<A>, begins: bool) -> bool
-        requires runs { IsRunnable (nfa self.now) }
-        requires seeds { HasSeeds self.now }
+        requires built { IsBuilt self.now }
         requires room { HaveRoom (buffers sets.old) (length self.now.states.items) }
         requires visits { sets.old.visits < 2 ^ 99 }
         ensures room { HaveRoom (buffers sets.new) (length self.now.states.items) }
@@ -256,9 +250,7 @@ impl<A: Allocator> Automaton<A> {
         from: usize,
         lost: usize,
     ) -> (Option<bool>, usize)
-        requires runs { IsRunnable (nfa self.now) }
-        requires seeds { HasSeeds self.now }
-        requires starts { HasStarts self.now }
+        requires built { IsBuilt self.now }
         requires room { HaveRoom (buffers sets.old) (length self.now.states.items) }
         requires short { length line.now ≤ 2 ^ 30 }
         requires later { 1 ≤ from }
@@ -292,9 +284,7 @@ impl<A: Allocator> Automaton<A> {
 
     /// Goes on from the set of a line's first place without what is remembered. The line isn't empty.
     pub(crate) fn search_first(&self, sets: &mut StateSets<A>, line: &[u8]) -> bool
-        requires runs { IsRunnable (nfa self.now) }
-        requires seeds { HasSeeds self.now }
-        requires starts { HasStarts self.now }
+        requires built { IsBuilt self.now }
         requires room { HaveRoom (buffers sets.old) (length self.now.states.items) }
         requires short { length line.now ≤ 2 ^ 30 }
         requires bytes { 1 ≤ length line.now }
@@ -315,9 +305,7 @@ impl<A: Allocator> Automaton<A> {
 
     /// Whether some span of the line is a hit, without what is remembered.
     pub(crate) fn search(&self, sets: &mut StateSets<A>, line: &[u8]) -> bool
-        requires runs { IsRunnable (nfa self.now) }
-        requires seeds { HasSeeds self.now }
-        requires starts { HasStarts self.now }
+        requires built { IsBuilt self.now }
         requires room { HaveRoom (buffers sets.old) (length self.now.states.items) }
         requires short { length line.now ≤ 2 ^ 30 }
         requires visits { sets.old.visits ≡ 0 }

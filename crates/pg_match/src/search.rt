@@ -1,16 +1,12 @@
 //! The search of a line, one place after the other.
-ghost use Rattle.std.specs.Prelude.{◌≡◌, ◌+◌, ◌*◌, ◌^◌, ◌<◌, ◌≤◌, ◌↔◌, List};
-ghost use Rattle.std.specs.Prelude.{length, is_none, IsTrue, MatchOption, IfOk, None};
-ghost use Rattle.pg_pattern.specs.Patterns.{Pattern};
-ghost use Rattle.pg_match.specs.Automata.{IsRunnable};
+ghost use Rattle.std.specs.Prelude.{◌≡◌, ◌+◌, ◌*◌, ◌^◌, ◌<◌, ◌≤◌};
+ghost use Rattle.std.specs.Prelude.{length, is_none, IfOk, None};
 ghost use Rattle.pg_pattern.specs.Bounds.{MayBegin, MayEnd};
-ghost use Rattle.pg_pattern.specs.Hits.{HasHit, HasNoNext, IsNext};
-ghost use Rattle.pg_match.specs.Machines.{Agrees};
 ghost use Rattle.pg_match.specs.StateSets.{IsGood, HaveRoom};
-ghost use Rattle.pg_match.specs.Closures.{IsClosed, IsOrdered, AllBelow, Stepped};
+ghost use Rattle.pg_match.specs.Closures.{IsClosed, IsOrdered, AllBelow};
 ghost use Rattle.pg_match.specs.Starts.{Sown};
 ghost use Rattle.pg_match.specs.Searches.{Alive, Advanced, IsBest, start_bound, judged, limit_of, ending};
-ghost use Rattle.pg_match.specs.Views.{nfa, members, buffers, added, HasSeeds, HasStarts, Tells};
+ghost use Rattle.pg_match.specs.Views.{nfa, members, buffers, added, Tells, IsBuilt};
 
 use crate::automaton::Automaton;
 use crate::closure::{reach, step};
@@ -95,7 +91,7 @@ impl<A: Allocator> Automaton<A> {
     /// Begins a search at a place: takes all states out, and adds the start if a line begins there. Starts at other
     /// places are added behind their first byte.
     fn enter(&self, sets: &mut StateSets<A>, line: &[u8], from: usize)
-        requires runs { IsRunnable (nfa self.now) }
+        requires built { IsBuilt self.now }
         requires room { HaveRoom (buffers sets.old) (length self.now.states.items) }
         ensures alive { Alive self.now.states.items line.now self.now.start (MayBegin self.now.bounds line.now) from
             (start_bound from) from (members sets.new.current) None }
@@ -113,7 +109,7 @@ impl<A: Allocator> Automaton<A> {
     /// The mark of the match that ends at `place`, or 0.
     #[inline(always)]
     fn ending(&self, set: &StateSet<A>, line: &[u8], place: usize) -> u32
-        requires runs { IsRunnable (nfa self.now) }
+        requires built { IsBuilt self.now }
         requires size { length set.now.marks.items ≡ length self.now.states.items }
         requires place { place ≤ length line.now }
         ensures { result ≡ ending (nfa self.now) line.now place (members set.now) }
@@ -128,9 +124,7 @@ impl<A: Allocator> Automaton<A> {
     /// Adds what the byte at a place leads to from a start there.
     #[inline(always)]
     fn sow(&self, line: &[u8], place: usize, next: &mut StateSet<A>)
-        requires runs { IsRunnable (nfa self.now) }
-        requires seeds { HasSeeds self.now }
-        requires starts { HasStarts self.now }
+        requires built { IsBuilt self.now }
         requires good { IsGood (members next.old) }
         requires size { length next.old.marks.items ≡ length self.now.states.items }
         requires closed { IsClosed self.now.states.items line.now (place + 1) (members next.old) }
@@ -158,9 +152,7 @@ impl<A: Allocator> Automaton<A> {
         place: usize,
         best: Option<(usize, usize)>,
     )
-        requires runs { IsRunnable (nfa self.now) }
-        requires seeds { HasSeeds self.now }
-        requires starts { HasStarts self.now }
+        requires built { IsBuilt self.now }
         requires room { HaveRoom (buffers sets.old) (length self.now.states.items) }
         requires ordered { IsOrdered (members sets.old.current) }
         requires below { AllBelow (members sets.old.current) (place + 1) }
@@ -196,9 +188,7 @@ impl<A: Allocator> Automaton<A> {
         line: &[u8],
         from: usize,
     ) -> Option<(usize, usize)>
-        requires runs { IsRunnable (nfa self.now) }
-        requires seeds { HasSeeds self.now }
-        requires starts { HasStarts self.now }
+        requires built { IsBuilt self.now }
         requires room { HaveRoom (buffers sets.old) (length self.now.states.items) }
         requires short { length line.now ≤ 2 ^ 30 }
         requires from_in { from ≤ length line.now }

@@ -1,5 +1,5 @@
 //! How many states trees take.
-ghost use Rattle.std.specs.Prelude.{◌≡◌, ◌+◌, ◌≤◌, ◌*◌, min, All, take, sum_by, map};
+ghost use Rattle.std.specs.Prelude.{◌≡◌, ◌+◌, ◌*◌, min, All, map};
 ghost use Rattle.pg_pattern.specs.Patterns.{IsProper};
 ghost use Rattle.pg_pattern.specs.Trees.{pattern};
 ghost use Rattle.pg_match.specs.Sizes.{size_of, list_size};

@@ -11,8 +11,8 @@ use Rattle.pg_board.specs.Board.{SeatView}
 use Rattle.pg_board.specs.Tray.{PutView}
 use Rattle.pg_board.proofs.CountLemmas.{total-append}
 use Rattle.pg_blocks.specs.Blocks.{BlockData}
-use Rattle.pg_lines.specs.Search.{SearchText}
-use Rattle.pg_lines.specs.Searched.{Searched}
+use Rattle.pg_selection.specs.Search.{SearchText}
+use Rattle.pg_selection.specs.Searched.{Searched}
 use Rattle.pg_round.specs.Results.{IsResultOf, AreResultsOf, HasResult}
 use Rattle.pg_round.specs.Workers.{Task, AreWorks}
 

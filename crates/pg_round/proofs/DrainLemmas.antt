@@ -2,7 +2,7 @@
 use Rattle.std.proofs.Common.{◌≡◌, ℕ, ◌<◌, Bool, true, false, ◌||◌, List, [], ◌++◌, refl, sym, ◌∙◌, subst, Result, Ok}
 use Rattle.std.proofs.Common.{Err, OnOk, OnErr}
 use Rattle.std.specs.Prelude.{IsErrOf}
-use Rattle.pg_lines.specs.Search.{terminator}
+use Rattle.pg_selection.specs.Search.{terminator}
 use Rattle.pg_rows.specs.Output.{output, HasRoom}
 use Rattle.pg_seq.specs.Plan.{IsShaped, entries_of}
 use Rattle.pg_seq.specs.History.{Past, plan, handed, handed_after, front_after, taken_of}

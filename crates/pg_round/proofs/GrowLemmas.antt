@@ -4,8 +4,8 @@ use Rattle.std.proofs.Common.{append-nil, Option, None, Some, IfSome}
 use Rattle.std.specs.Prelude.{option_to_list}
 use Rattle.std.specs.declared.sync.Arc.{Arc}
 use Rattle.pg_blocks.specs.Blocks.{BlockData}
-use Rattle.pg_lines.specs.Search.{SearchText}
-use Rattle.pg_lines.specs.Searched.{Searched}
+use Rattle.pg_selection.specs.Search.{SearchText}
+use Rattle.pg_selection.specs.Searched.{Searched}
 use Rattle.pg_board.specs.Board.{SeatView, seat_view}
 use Rattle.pg_board.specs.Tray.{PutView, put_view}
 use Rattle.pg_round.specs.Results.{IsResultOf, AreResultsOf}

@@ -3,8 +3,8 @@ use Rattle.std.specs.Prelude.{◌≡◌, ℕ, ◌<◌, false, List, [], ◌∷�
 use Rattle.std.specs.declared.sync.Arc.{Arc}
 use Rattle.pg_board.specs.Merge.{IsMerge}
 use Rattle.pg_blocks.specs.Blocks.{BlockData}
-use Rattle.pg_lines.specs.Search.{SearchText}
-use Rattle.pg_lines.specs.Searched.{Searched}
+use Rattle.pg_selection.specs.Search.{SearchText}
+use Rattle.pg_selection.specs.Searched.{Searched}
 use Rattle.pg_rows.specs.Output.{output}
 use Rattle.pg_base.specs.Sink.{IsBeginning}
 use Rattle.pg_seq.specs.Plan.{entries_of}

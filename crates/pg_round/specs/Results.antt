@@ -4,8 +4,8 @@ use Rattle.std.specs.Arc.{arc_value}
 use Rattle.std.specs.declared.sync.Arc.{Arc}
 use Rattle.pg_blocks.specs.Blocks.{BlockData}
 use Rattle.pg_blocks.specs.Lines.{AreShort}
-use Rattle.pg_lines.specs.Search.{SearchText, terminator_of}
-use Rattle.pg_lines.specs.Searched.{Searched}
+use Rattle.pg_selection.specs.Search.{SearchText, terminator_of}
+use Rattle.pg_selection.specs.Searched.{Searched}
 
 module _ {A : Type 0} where
   -- the lines of the block have at most 2^30 bytes each

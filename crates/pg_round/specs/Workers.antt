@@ -1,6 +1,5 @@
 -- What those who search a round have drawn and put.
 use Rattle.std.specs.Prelude.{◌≡◌, ℕ, ◌<◌, List, [], ◌∷◌, ◌++◌, length, All, None, IfSome, option_to_list}
-use Rattle.std.specs.Arc.{arc_value}
 use Rattle.std.specs.declared.sync.Arc.{Arc}
 use Rattle.crossbeam_queue.specs.SegTies.{SegId}
 use Rattle.pg_board.specs.Board.{BoardView, SeatView}
@@ -8,7 +7,7 @@ use Rattle.pg_board.specs.Tray.{PutView}
 use Rattle.pg_match.specs.Machines.{Fits}
 use Rattle.pg_blocks.specs.Blocks.{BlockData}
 use Rattle.pg_lines.specs.Queries.{Compiled}
-use Rattle.pg_lines.specs.Searched.{Searched}
+use Rattle.pg_selection.specs.Searched.{Searched}
 use Rattle.pg_round.specs.Results.{HasShortLines, IsResultOf, AreResultsOf}
 use Rattle.pg_round.specs.declared.round.Round.{Round}
 use Rattle.pg_round.specs.declared.worker.Worker.{Worker}
@@ -27,7 +26,7 @@ module _ {A : Type 0} where
   task query blocks board tray = record { query = query; blocks = blocks; board = board; tray = tray }
 
   abbrev pub task_of : Round A → Task A
-  task_of round = task (arc_value round.query.now) round.blocks.now round.board.now round.tray.now
+  task_of round = task round.query.now round.blocks.now round.board.now round.tray.now
 
   -- the board has a number for each block, and each block can be searched
   abbrev pub IsReady : Task A → Type 0

@@ -1,8 +1,7 @@
 //! What is left of a round once all have ended.
-ghost use Rattle.std.specs.Prelude.{◌≡◌, ◌+◌, [], true, All, Any, List, vec_len, length, IfOk, OnOk};
-ghost use Rattle.std.specs.Arc.{arc_value};
+ghost use Rattle.std.specs.Prelude.{◌≡◌, ◌+◌, true, All, Any, List, vec_len, length, IfOk, OnOk};
 ghost use Rattle.pg_match.specs.Machines.{Fits};
-ghost use Rattle.pg_lines.specs.Searched.{Searched};
+ghost use Rattle.pg_selection.specs.Searched.{Searched};
 ghost use Rattle.pg_board.specs.Merge.{IsMerge};
 ghost use Rattle.pg_round.specs.Results.{HasAll};
 ghost use Rattle.pg_round.specs.Workers.{task, task_of, HasFinished, AreWorks};
@@ -11,7 +10,8 @@ use crate::round::Round;
 use crate::worker::Worker;
 use pg_blocks::Block;
 use pg_board::{Board, Delivered, PutPass, Seat, TakePass, Tray};
-use pg_lines::{BlockResult, Query, Scratch};
+use pg_lines::{Query, Scratch};
+use pg_selection::BlockResult;
 use std::alloc::{AllocError, Allocator};
 use std::sync::Arc;
 
@@ -27,11 +27,11 @@ fn part<A: Allocator + Copy>(
 ) -> Result<Parted<A>, AllocError>
     requires finished { All (HasFinished (task_of round)) workers.items }
     requires spent { Any (λ w. w.seat.spent ≡ true) workers.items }
-    requires fits { All (λ s. Fits s (arc_value round.query.now).machine) scratches.old.items }
+    requires fits { All (λ s. Fits s round.query.now.machine) scratches.old.items }
     ensures works { IfOk result (λ r. AreWorks (task_of round.entry) r.0.items r.1.items) }
     ensures spent { IfOk result (λ r. Any (λ s. s.spent ≡ true) r.0.items) }
     ensures len { IfOk result (λ r. vec_len r.0 ≡ vec_len workers) }
-    ensures fits { OnOk result (All (λ s. Fits s (arc_value round.entry.query.now).machine) scratches.new.items) }
+    ensures fits { OnOk result (All (λ s. Fits s round.entry.query.now.machine) scratches.new.items) }
     ensures count { OnOk result (vec_len scratches.new ≡ vec_len scratches.old + vec_len workers) }
 {
     let mut seats = Vec::with_capacity(alloc, workers.len())?;
@@ -49,7 +49,7 @@ fn part<A: Allocator + Copy>(
 /// of its blocks. The scratches are given back.
 pub(crate) fn close_round<A: Allocator + Copy>(
     alloc: A,
-    query: &Arc<Query<A>, A>,
+    query: &Query<A>,
     blocks: &[Arc<Block<A>, A>],
     board: Board<A>,
     tray: Tray<BlockResult<A>, A>,
@@ -57,14 +57,14 @@ pub(crate) fn close_round<A: Allocator + Copy>(
     take: TakePass<BlockResult<A>, A>,
     scratches: &mut Vec<Scratch<A>, A>,
 ) -> Result<Delivered<BlockResult<A>, A>, AllocError>
-    requires finished { All (HasFinished (task (arc_value query.now) blocks.now board tray)) workers.items }
+    requires finished { All (HasFinished (task query.now blocks.now board tray)) workers.items }
     requires spent { Any (λ w. w.seat.spent ≡ true) workers.items × (length blocks.now ≡ board.limit) }
     requires all { (vec_len workers ≡ board.seats) × (vec_len workers ≡ take.workers) × (take.tray ≡ tray) }
-    requires fits { All (λ s. Fits s (arc_value query.now).machine) scratches.old.items }
+    requires fits { All (λ s. Fits s query.now.machine) scratches.old.items }
     ensures taken { IfOk result (λ r. r.out ≡ take.taken) }
     ensures all { IfOk result (λ r. (rs : List Searched) → IsMerge r.lists rs →
-        HasAll (arc_value query.now).text blocks.now rs) }
-    ensures fits { OnOk result (All (λ s. Fits s (arc_value query.now).machine) scratches.new.items) }
+        HasAll query.now.text blocks.now rs) }
+    ensures fits { OnOk result (All (λ s. Fits s query.now.machine) scratches.new.items) }
     ensures count { OnOk result (vec_len scratches.new ≡ vec_len scratches.old + vec_len workers) }
 {
     let round = Round {

@@ -2,7 +2,7 @@
 ghost use Rattle.std.specs.Prelude.{◌≡◌, ℕ, ◌<◌, ◌≤◌, ◌++◌, List, OnOk, IsErrOf};
 
 use pg_base::Sink;
-use pg_lines::BlockResult;
+use pg_selection::BlockResult;
 use pg_seq::{Arrival, Sequencer, SinkFault};
 use std::alloc::Allocator;
 
@@ -14,7 +14,7 @@ pub trait Collector<F> {
     ghost use Rattle.pg_seq.specs.Standing.{Drained, drained};
     ghost use Rattle.pg_seq.specs.declared.answers.SinkFault.TheVariants.{WriteFailed};
     ghost use Rattle.pg_round.specs.Receipts.{IsSafe};
-    ghost use Rattle.pg_lines.specs.Searched.{Searched};
+    ghost use Rattle.pg_selection.specs.Searched.{Searched};
 
     /// It stands after this.
     ghost stands: { Self → Past → Type 0 };

@@ -1,6 +1,5 @@
 //! What a round needs before it begins.
 ghost use Rattle.std.specs.Prelude.{◌≡◌, ◌+◌, ◌<◌, ◌≤◌, [], false, All, vec_len, length, IfOk, OnOk};
-ghost use Rattle.std.specs.Arc.{arc_value};
 ghost use Rattle.pg_match.specs.Machines.{Fits};
 ghost use Rattle.pg_board.specs.Board.{seat_view};
 ghost use Rattle.pg_board.specs.Tray.{put_view, take_view};
@@ -10,7 +9,8 @@ use crate::round::Round;
 use crate::worker::Worker;
 use pg_blocks::Block;
 use pg_board::{Board, PutPass, Seat, TakePass, Tray};
-use pg_lines::{BlockResult, Query, Scratch};
+use pg_lines::{Query, Scratch};
+use pg_selection::BlockResult;
 use std::alloc::{AllocError, Allocator};
 use std::sync::Arc;
 
@@ -33,11 +33,11 @@ fn gather<A: Allocator + Copy>(
 ) -> Result<Vec<Worker<A>, A>, AllocError>
     requires seats { All (λ s. s ≡ seat_view round.board.now [] false) seats.items }
     requires passes { All (λ p. p ≡ put_view round.tray.now []) passes.items × (vec_len passes ≡ vec_len seats) }
-    requires scratches { All (λ s. Fits s (arc_value round.query.now).machine) scratches.old.items
+    requires scratches { All (λ s. Fits s round.query.now.machine) scratches.old.items
         × (vec_len seats ≤ vec_len scratches.old) }
     ensures workers { IfOk result (λ workers. All (HasFinished (task_of round.entry)) workers.items
         × (vec_len workers ≡ vec_len seats)) }
-    ensures scratches { OnOk result (All (λ s. Fits s (arc_value round.entry.query.now).machine) scratches.new.items
+    ensures scratches { OnOk result (All (λ s. Fits s round.entry.query.now.machine) scratches.new.items
         × (vec_len scratches.new + vec_len seats ≡ vec_len scratches.old)) }
 {
     let mut workers = Vec::with_capacity(alloc, seats.len())?;
@@ -61,18 +61,18 @@ fn gather<A: Allocator + Copy>(
 /// Opens a round of some blocks for so many workers, who get their scratches from those given.
 pub(crate) fn open_round<A: Allocator + Copy>(
     alloc: A,
-    query: &Arc<Query<A>, A>,
+    query: &Query<A>,
     blocks: &[Arc<Block<A>, A>],
     count: u32,
     scratches: &mut Vec<Scratch<A>, A>,
 ) -> Result<Opened<A>, AllocError>
     requires few { (0 < count) × (count ≤ 65) × (count ≤ vec_len scratches.old) × (length blocks.now ≤ 1024) }
-    requires fits { All (λ s. Fits s (arc_value query.now).machine) scratches.old.items }
+    requires fits { All (λ s. Fits s query.now.machine) scratches.old.items }
     ensures board { IfOk result (λ r. (r.board.limit ≡ length blocks.now) × (r.board.seats ≡ count)) }
     ensures take { IfOk result (λ r. r.take ≡ take_view r.tray count []) }
     ensures workers { IfOk result (λ r. (vec_len r.workers ≡ count)
-        × All (HasFinished (task (arc_value query.now) blocks.now r.board r.tray)) r.workers.items) }
-    ensures scratches { OnOk result (All (λ s. Fits s (arc_value query.now).machine) scratches.new.items
+        × All (HasFinished (task query.now blocks.now r.board r.tray)) r.workers.items) }
+    ensures scratches { OnOk result (All (λ s. Fits s query.now.machine) scratches.new.items
         × (vec_len scratches.new + count ≡ vec_len scratches.old)) }
 {
     let (board, seats) = Board::open(alloc, blocks.len() as u32, count)?;

@@ -1,6 +1,6 @@
 //! What the calling thread does with the results of a round.
-ghost use Rattle.std.specs.Prelude.{◌≡◌, ℕ, ◌∷◌, [], false, OnOk, OnErr};
-ghost use Rattle.pg_lines.specs.Searched.{Searched};
+ghost use Rattle.std.specs.Prelude.{◌≡◌, ◌∷◌, [], false, OnOk, OnErr};
+ghost use Rattle.pg_selection.specs.Searched.{Searched};
 ghost use Rattle.pg_seq.specs.History.{Past};
 ghost use Rattle.pg_round.specs.Receipts.{IsSafe, HasReceived, HasBroken, HasDelivered};
 
@@ -8,7 +8,7 @@ use crate::collector::Collector;
 use crate::reader::Reader;
 use pg_base::Sink;
 use pg_board::{Delivered, TakePass, Tray};
-use pg_lines::BlockResult;
+use pg_selection::BlockResult;
 use pg_seq::SinkFault;
 use std::alloc::Allocator;
 use std::sync::Wait;

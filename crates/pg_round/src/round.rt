@@ -3,7 +3,8 @@ ghost use Rattle.std.specs.Prelude.{◌≡◌};
 
 use pg_blocks::Block;
 use pg_board::{Board, Tray};
-use pg_lines::{BlockResult, Query};
+use pg_lines::Query;
+use pg_selection::BlockResult;
 use std::alloc::{AllocError, Allocator, Global};
 use std::sync::Arc;
 
@@ -11,7 +12,7 @@ use std::sync::Arc;
 ///
 /// Block k of the round has the number k, which is drawn from the board. The tray takes the results.
 pub struct Round<'a, A: Allocator = Global> {
-    pub query: &'a Arc<Query<A>, A>,
+    pub query: &'a Query<A>,
     pub blocks: &'a [Arc<Block<A>, A>],
     pub board: &'a Board<A>,
     pub tray: &'a Tray<BlockResult<A>, A>,

@@ -1,9 +1,8 @@
 //! The search of one round.
 ghost use Rattle.std.specs.Prelude.{◌≡◌, ◌+◌, ◌<◌, ◌≤◌, [], true, false, All, Any, vec_len, length};
-ghost use Rattle.std.specs.Prelude.{IfOk, IfErr, OnOk, OnErr, IsErrOf};
-ghost use Rattle.std.specs.Arc.{arc_value};
+ghost use Rattle.std.specs.Prelude.{IfOk, OnOk, OnErr, IsErrOf};
 ghost use Rattle.pg_match.specs.Machines.{Fits};
-ghost use Rattle.pg_lines.specs.Searched.{Searched};
+ghost use Rattle.pg_selection.specs.Searched.{Searched};
 ghost use Rattle.pg_seq.specs.History.{Past};
 ghost use Rattle.pg_round.specs.Results.{HasShortLines};
 ghost use Rattle.pg_round.specs.Workers.{task_of, IsReady, HasFinished, AreBack};
@@ -23,7 +22,8 @@ use crate::worker::Worker;
 use pg_base::Sink;
 use pg_blocks::Block;
 use pg_board::TakePass;
-use pg_lines::{BlockResult, Query, Scratch};
+use pg_lines::{Query, Scratch};
+use pg_selection::BlockResult;
 use pg_seq::SinkFault;
 use std::alloc::{AllocError, Allocator};
 use std::sync::{Arc, Wait};
@@ -201,7 +201,7 @@ pub fn search_round<
 >(
     rt: &R,
     alloc: A,
-    query: &Arc<Query<A>, A>,
+    query: &Query<A>,
     blocks: &[Arc<Block<A>, A>],
     threads: u32,
     scratches: &mut Vec<Scratch<A>, A>,
@@ -213,12 +213,12 @@ pub fn search_round<
 ) -> Result<(), RoundFault>
     requires few { (0 < vec_len scratches.old) × (vec_len scratches.old ≤ 65) × (length blocks.now ≤ 1024)
         × (threads ≤ 64) }
-    requires fits { All (λ s. Fits s (arc_value query.now).machine) scratches.old.items }
+    requires fits { All (λ s. Fits s query.now.machine) scratches.old.items }
     requires sees { (found : Searched) → S.searched found ≡ found }
-    requires short { All (HasShortLines (arc_value query.now).text) blocks.now }
+    requires short { All (HasShortLines query.now.text) blocks.now }
     requires reader { D.ready reader.old from.old }
     ensures ok { (past : Past) → S.stands collector.old past → past.failed ≡ false → IsSafe past past.written →
-        OnOk result (HasRound (S.stands collector.new) past (arc_value query.now).text blocks.now
+        OnOk result (HasRound (S.stands collector.new) past query.now.text blocks.now
         (W.stream out.old).taken (W.stream out.new).taken) }
     ensures err { (past : Past) → S.stands collector.old past → past.failed ≡ false → IsSafe past past.written →
         OnErr result (HasFailed past (W.stream out.old).taken (W.stream out.new).taken) }
@@ -229,7 +229,7 @@ pub fn search_round<
     ensures ready { D.ready reader.new from.new }
     ensures read { (r : D) → (f : F) → D.reaches r f reader.old from.old → D.reaches r f reader.new from.new }
     ensures scratches { OnOk result ((vec_len scratches.new ≡ vec_len scratches.old)
-        × All (λ s. Fits s (arc_value query.now).machine) scratches.new.items) }
+        × All (λ s. Fits s query.now.machine) scratches.new.items) }
 {
     let count = count_workers(blocks.len(), scratches.len(), threads);
     let Opened {

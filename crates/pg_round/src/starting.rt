@@ -1,6 +1,5 @@
 //! How workers are started and brought back.
-ghost use Rattle.std.specs.Prelude.{◌≡◌, ◌+◌, ◌<◌, ◌≤◌, [], All, vec_len, vec_capacity};
-ghost use Rattle.std.specs.Arc.{arc_value};
+ghost use Rattle.std.specs.Prelude.{◌≡◌, ◌+◌, ◌<◌, ◌≤◌, All, vec_len, vec_capacity};
 ghost use Rattle.pg_round.specs.Workers.{task, task_of, IsReady, HasWorked, HasFinished, IsStarted};
 
 use crate::gate::Gate;
@@ -67,9 +66,9 @@ fn start<'s, 'e: 's, R: Threads + Wait + Sync, A: Allocator + Copy + Send + Sync
     let child = scope.spawn_with(
         round,
         move || -> Worker<A>
-            requires { IsReady (task (arc_value query.now) blocks.now board.now tray.now)
-                × HasFinished (task (arc_value query.now) blocks.now board.now tray.now) worker }
-            ensures { HasWorked (task (arc_value query.entry.now) blocks.entry.now board.entry.now tray.entry.now)
+            requires { IsReady (task query.now blocks.now board.now tray.now)
+                × HasFinished (task query.now blocks.now board.now tray.now) worker }
+            ensures { HasWorked (task query.entry.now blocks.entry.now board.entry.now tray.entry.now)
                 result }
         {
             let round = Round {

@@ -1,6 +1,6 @@
 //! The workers of a round, beside the thread that takes what they put.
 ghost use Rattle.std.specs.Prelude.{◌≡◌, ◌<◌, [], All, vec_len, IfSome, IsSome, OnOk};
-ghost use Rattle.pg_lines.specs.Searched.{Searched};
+ghost use Rattle.pg_selection.specs.Searched.{Searched};
 ghost use Rattle.pg_round.specs.Workers.{task_of, IsReady, HasFinished, AreBack};
 ghost use Rattle.pg_round.specs.Receipts.{TookIn};
 ghost use Rattle.pg_round.specs.Reading.{HasGoneOn};
@@ -14,7 +14,7 @@ use crate::starting::{join_all, start_all};
 use crate::worker::{Worker, search};
 use pg_base::Sink;
 use pg_board::{TakePass, Tray};
-use pg_lines::BlockResult;
+use pg_selection::BlockResult;
 use pg_seq::SinkFault;
 use std::alloc::{AllocError, Allocator};
 use std::sync::Wait;

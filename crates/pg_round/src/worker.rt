@@ -1,15 +1,14 @@
 //! What each one who searches does.
 ghost use Rattle.std.specs.Prelude.{◌≡◌, ◌<◌, true, None, IfOk, IfErr, IfNone, OnOk, OnErr};
-ghost use Rattle.std.specs.Arc.{arc_value};
 ghost use Rattle.pg_match.specs.Machines.{Fits};
-ghost use Rattle.pg_lines.specs.Search.{SearchText};
 ghost use Rattle.pg_round.specs.Results.{IsResultOf};
 ghost use Rattle.pg_round.specs.Workers.{task_of, IsReady, HasPut, GrowAlike, GrowBut, HasWorked, HasFinished};
 
 use crate::gate::Gate;
 use crate::round::Round;
 use pg_board::{PutPass, Seat};
-use pg_lines::{BlockResult, Scratch, search_block};
+use pg_lines::{Scratch, search_block};
+use pg_selection::BlockResult;
 use std::alloc::{AllocError, Allocator, Global};
 use std::sync::{Arc, Wait};
 use thiserror::Error;
@@ -68,10 +67,10 @@ fn search_number<A: Allocator + Copy, G: Gate>(
 ) -> Result<BlockResult<A>, AllocError>
     requires ready { IsReady (task_of round) }
     requires number { number < round.board.now.limit }
-    requires fits { Fits scratch.old (arc_value round.query.now).machine }
-    ensures fits { Fits scratch.new (arc_value round.entry.query.now).machine }
+    requires fits { Fits scratch.old round.query.now.machine }
+    ensures fits { Fits scratch.new round.entry.query.now.machine }
     ensures found { IfOk result
-        (IsResultOf (arc_value round.entry.query.now).text round.entry.blocks.now number) }
+        (IsResultOf round.entry.query.now.text round.entry.blocks.now number) }
 {
     let block = Arc::try_clone(&round.blocks[number as usize])?;
     gate.before(number);
@@ -93,9 +92,9 @@ fn search_one<R: Wait, A: Allocator + Copy, G: Gate>(
     requires ready { IsReady (task_of round) }
     requires number { number < round.board.now.limit }
     requires tray { pass.old.tray ≡ round.tray.now }
-    requires fits { Fits scratch.old (arc_value round.query.now).machine }
+    requires fits { Fits scratch.old round.query.now.machine }
     ensures tray { pass.new.tray ≡ round.entry.tray.now }
-    ensures fits { Fits scratch.new (arc_value round.entry.query.now).machine }
+    ensures fits { Fits scratch.new round.entry.query.now.machine }
     ensures ok { OnOk result (HasPut (task_of round.entry) number pass.old.put pass.new.put) }
     ensures err { OnErr result (pass.new.put ≡ pass.old.put) }
 {
@@ -123,9 +122,9 @@ pub fn work<R: Wait, A: Allocator + Copy, G: Gate>(
 ) -> Result<(), Unfinished>
     requires ready { IsReady (task_of round) }
     requires same { (seat.old.board ≡ round.board.now) × (pass.old.tray ≡ round.tray.now) }
-    requires fits { Fits scratch.old (arc_value round.query.now).machine }
+    requires fits { Fits scratch.old round.query.now.machine }
     ensures same { (seat.new.board ≡ round.entry.board.now) × (pass.new.tray ≡ round.entry.tray.now) }
-    ensures fits { Fits scratch.new (arc_value round.entry.query.now).machine }
+    ensures fits { Fits scratch.new round.entry.query.now.machine }
     ensures ok { OnOk result ((seat.new.spent ≡ true)
         × GrowAlike (task_of round.entry) seat.old.drawn seat.new.drawn pass.old.put pass.new.put) }
     ensures err { IfErr result (λ left. (left.number < round.entry.board.now.limit)

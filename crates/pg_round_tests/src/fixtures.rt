@@ -1,7 +1,6 @@
 //! Blocks, scratches, gates, a collector and a reader for tests.
-ghost use Rattle.std.specs.Prelude.{◌≡◌, ℕ, ◌+◌, ◌^◌, ◌<◌, ◌≤◌, ◌++◌, List, [], All};
-ghost use Rattle.std.specs.Prelude.{vec_len, length, IfOk, OnOk, IsErrOf};
-ghost use Rattle.std.specs.Arc.{arc_value};
+ghost use Rattle.std.specs.Prelude.{◌≡◌, ℕ, ◌+◌, ◌^◌, ◌<◌, ◌≤◌, ◌++◌, List, All};
+ghost use Rattle.std.specs.Prelude.{vec_len, IfOk, OnOk, IsErrOf};
 ghost use Rattle.pg_match.specs.Machines.{Fits};
 ghost use Rattle.pg_round.specs.Results.{HasShortLines};
 
@@ -32,12 +31,9 @@ pub(crate) fn text<A: Allocator + Copy>(alloc: A) -> Result<QueryText<A>, AllocE
 }
 
 /// A query for the letter x.
-pub(crate) fn query<A: Allocator + Copy>(alloc: A) -> Result<Arc<Query<A>, A>, AllocError> {
+pub(crate) fn query<A: Allocator + Copy>(alloc: A) -> Result<Query<A>, AllocError> {
     match Query::compile(alloc, text(alloc)?) {
-        Ok(query) => {
-            let query = Arc::new(alloc, query)?;
-            Ok(query)
-        }
+        Ok(query) => Ok(query),
         Err(_) => Err(AllocError),
     }
 }
@@ -45,13 +41,12 @@ pub(crate) fn query<A: Allocator + Copy>(alloc: A) -> Result<Arc<Query<A>, A>, A
 /// So many blocks without a byte, with the numbers from 0.
 pub(crate) fn blocks<A: Allocator + Copy>(
     alloc: A,
-    query: &Arc<Query<A>, A>,
+    query: &Query<A>,
     count: u32,
 ) -> Result<Vec<Arc<Block<A>, A>, A>, AllocError>
     ensures len { IfOk result (λ blocks. vec_len blocks ≡ count) }
-    ensures short { IfOk result (λ blocks. All (HasShortLines (arc_value query.now).text) blocks.items) }
+    ensures short { IfOk result (λ blocks. All (HasShortLines query.now.text) blocks.items) }
 {
-    let _searched: &Query<A> = query;
     let mut blocks = Vec::with_capacity(alloc, count as usize)?;
     for number in 0..count {
         let block = Block {
@@ -68,16 +63,15 @@ pub(crate) fn blocks<A: Allocator + Copy>(
 /// So many scratches for a query.
 pub(crate) fn scratches<A: Allocator + Copy>(
     alloc: A,
-    query: &Arc<Query<A>, A>,
+    query: &Query<A>,
     count: u32,
 ) -> Result<Vec<Scratch<A>, A>, AllocError>
     ensures len { IfOk result (λ all. vec_len all ≡ count) }
-    ensures fits { IfOk result (λ all. All (λ s. Fits s (arc_value query.now).machine) all.items) }
+    ensures fits { IfOk result (λ all. All (λ s. Fits s query.now.machine) all.items) }
 {
-    let searched: &Query<A> = query;
     let mut all = Vec::with_capacity(alloc, count as usize)?;
     for _ in 0..count {
-        let scratch = Scratch::new(alloc, searched.machine())?;
+        let scratch = Scratch::new(alloc, query.machine())?;
         all.push_reserved(scratch);
     }
     Ok(all)
@@ -90,7 +84,7 @@ pub(crate) struct Counts {
 }
 
 impl<A: Allocator> Collector<BlockResult<A>> for Counts {
-    ghost use Rattle.pg_seq.specs.History.{Past, arrived, answer, handed};
+    ghost use Rattle.pg_seq.specs.History.{Past, answer, handed};
     ghost use Rattle.pg_seq.specs.Standing.{Drained, drained};
     ghost use Rattle.pg_seq.specs.declared.answers.SinkFault.TheVariants.{WriteFailed};
     ghost use Rattle.pg_round.specs.Receipts.{IsSafe};

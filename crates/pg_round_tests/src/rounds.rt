@@ -1,6 +1,5 @@
 //! Rounds of blocks.
 ghost use Rattle.std.specs.Prelude.{◌≡◌, ◌<◌, ◌≤◌, All, vec_len, IfOk};
-ghost use Rattle.std.specs.Arc.{arc_value};
 ghost use Rattle.pg_match.specs.Machines.{Fits};
 ghost use Rattle.pg_round.specs.Results.{HasShortLines};
 
@@ -18,7 +17,7 @@ use std::time::Clock;
 
 /// What a round searches, and by which scratches.
 struct Round<A: Allocator> {
-    query: Arc<Query<A>, A>,
+    query: Query<A>,
     blocks: Vec<Arc<Block<A>, A>, A>,
     scratches: Vec<Scratch<A>, A>,
 }
@@ -40,8 +39,8 @@ fn round_of<A: Allocator + Copy>(
     scratches_count: u32,
 ) -> Result<Round<A>, AllocError>
     ensures counts { IfOk result (λ r. (vec_len r.blocks ≡ blocks_count) × (vec_len r.scratches ≡ scratches_count)) }
-    ensures short { IfOk result (λ r. All (HasShortLines (arc_value r.query).text) r.blocks.items) }
-    ensures fits { IfOk result (λ r. All (λ s. Fits s (arc_value r.query).machine) r.scratches.items) }
+    ensures short { IfOk result (λ r. All (HasShortLines r.query.text) r.blocks.items) }
+    ensures fits { IfOk result (λ r. All (λ s. Fits s r.query.machine) r.scratches.items) }
 {
     let query = query(alloc)?;
     let blocks = blocks(alloc, &query, blocks_count)?;

@@ -6,19 +6,19 @@ use Rattle.std.specs.List.{AllByRecursion}
 use Rattle.std.proofs.lemmas.Bool.{lt-ltb, le-ltb, ltb-false, cases_lt}
 use Rattle.std.proofs.lemmas.List.{take-append-drop, length-take-le, drop_all}
 use Rattle.pg_blocks.specs.Lines.{lines}
-use Rattle.pg_lines.specs.Search.{Search, terminator}
-use Rattle.pg_lines.specs.Selection.{selects}
+use Rattle.pg_selection.specs.Search.{Search, terminator}
+use Rattle.pg_selection.specs.Selection.{selects}
 use Rattle.pg_blocks.proofs.LineLemmas.{lines-append, some_line}
 use Rattle.pg_rows.specs.declared.format.Format.{Format}
 use Rattle.pg_rows.specs.declared.progress.Progress.{Progress}
-use Rattle.pg_lines.specs.declared.run.Run.{Run}
+use Rattle.pg_selection.specs.declared.run.Run.{Run}
 use Rattle.pg_rows.specs.Output.{is_below}
 use Rattle.pg_rows.specs.Trail.{Trail, run}
 use Rattle.pg_rows.specs.Stretch.{AllSelected, AreUnkept}
-use Rattle.pg_lines.specs.Runs.{AreRuns}
+use Rattle.pg_selection.specs.Runs.{AreRuns}
 use Rattle.pg_rows.specs.Progress.{IsOfTrail, Passes, KeepsLines, kept_of}
 use Rattle.pg_rows.proofs.StretchLemmas.{run_append, unselected_unkept, full_unkept}
-use Rattle.pg_rows.proofs.PrintLemmas.{lines_apart}
+use Rattle.pg_selection.proofs.RunLemmas.{lines_behind}
 use Rattle.pg_rows.proofs.ProgressLemmas.{passes_tells, keeps_tells}
 
 -- How many of some selected lines are kept: those fit, and no other one where there are more.
@@ -80,7 +80,7 @@ stretches q at seen bytes (here ∷ runs) h =
     let joins : lines end bytes ≡ lines end n.gap ++ (lines end n.text ++ lines end n.later) =
     ap (lines end) (n.joins ∙ append_assoc n.gap n.text n.later)
     ∙ (lines-append end n.gap (n.text ++ n.later) n.gap_whole
-    ∙ ap (λ xs. lines end n.gap ++ xs) (lines_apart end n.text n.later n.text_whole)) in
+    ∙ ap (λ xs. lines end n.gap ++ xs) (lines_behind end n.text n.later n.text_whole)) in
     let next : IsNextStretch q seen (lines end bytes) here = record {
       gap = lines end n.gap;
       text = lines end n.text;

@@ -8,9 +8,9 @@ use Rattle.std.specs.Fmt.{decimal, digits, digits_onto, digit_glyph}
 use Rattle.std.proofs.lemmas.Bool.{ne_eqb}
 use Rattle.std.proofs.lemmas.List.{append-nil, length-take-le}
 use Rattle.std.proofs.lemmas.List.Folds.{drop_split}
-use Rattle.pg_lines.specs.Search.{Search, terminator}
+use Rattle.pg_selection.specs.Search.{Search, terminator}
 use Rattle.pg_blocks.specs.Lines.{lines}
-use Rattle.pg_lines.specs.Selection.{selects}
+use Rattle.pg_selection.specs.Selection.{selects}
 use Rattle.pg_rows.specs.declared.format.Format.{Format}
 use Rattle.pg_rows.specs.Colors.{escape, in_color, name_color, number_color, mark_color, part_color, painted_from}
 use Rattle.pg_rows.specs.Colors.{without_from, without_escapes}

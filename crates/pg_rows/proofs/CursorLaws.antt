@@ -1,6 +1,6 @@
 -- The rows of a file are those that its lines add one after the other.
 use Rattle.std.proofs.Common.{◌≡◌, ℕ, Bool, true, false, cond, List, [], ◌++◌, refl, sym, ap, ◌∙◌}
-use Rattle.pg_lines.specs.Search.{Search, terminator}
+use Rattle.pg_selection.specs.Search.{Search, terminator}
 use Rattle.pg_blocks.specs.Lines.{AreWhole, lines}
 use Rattle.pg_blocks.proofs.LineLemmas.{lines-append}
 use Rattle.pg_rows.specs.declared.format.Format.{Format}

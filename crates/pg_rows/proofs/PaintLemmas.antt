@@ -9,13 +9,13 @@ use Rattle.std.proofs.lemmas.Bool.Decides.{nat_tests}
 use Rattle.std.proofs.lemmas.List.{drop-drop, drop_all, drop_more, length-take-le, take_at, take_rest}
 use Rattle.std.proofs.lemmas.List.Folds.{drop_split}
 use Rattle.std.proofs.Math.Seq.{drop-append_seam}
-use Rattle.pg_lines.specs.Search.{Search, terminator}
-use Rattle.pg_lines.specs.Selection.{selects}
+use Rattle.pg_selection.specs.Search.{Search, terminator}
+use Rattle.pg_selection.specs.Selection.{selects}
 use Rattle.pg_blocks.specs.Lines.{lines, terminated, AreWhole}
-use Rattle.pg_lines.specs.Runs.{IsNextRun}
-use Rattle.pg_lines.specs.BlockParts.{part_at}
-use Rattle.pg_lines.specs.declared.run.Part.{Part}
-use Rattle.pg_lines.specs.declared.run.Run.{Run}
+use Rattle.pg_selection.specs.Runs.{IsNextRun}
+use Rattle.pg_selection.specs.BlockParts.{part_at}
+use Rattle.pg_selection.specs.declared.run.Part.{Part}
+use Rattle.pg_selection.specs.declared.run.Run.{Run}
 use Rattle.pg_blocks.proofs.LineLemmas.{lines-append, terminated-lines}
 use Rattle.pg_rows.specs.declared.format.Format.{Format}
 use Rattle.pg_rows.specs.Colors.{in_color, painted_from, part_color}
@@ -26,7 +26,7 @@ use Rattle.pg_rows.specs.Stretch.{AllSelected, marked_rows, plain}
 use Rattle.pg_rows.specs.Painting.{painted_bytes, AreAscending, AreToldParts, count_before}
 use Rattle.pg_rows.proofs.FoldLemmas.{something, some_append}
 use Rattle.pg_rows.proofs.PieceLemmas.{Ascend, slice_in, told_ascend}
-use Rattle.pg_rows.proofs.PrintLemmas.{lines_apart}
+use Rattle.pg_selection.proofs.RunLemmas.{lines_behind}
 use Rattle.pg_rows.proofs.RunSteps.{KeptTexts, next_texts}
 use Rattle.pg_base.proofs.WriteLemmas.{WritesAllBut, left_whole}
 
@@ -412,7 +412,7 @@ run_own q bytes parts used next at seen count place run n within kept low fits l
     ap (lines end) (drop_split bytes at run.span.start texts.next.start)
     ∙ lines-append end gap more texts.next.whole in
     let later : lines end more ≡ lines end front ++ lines end rest =
-    ap (lines end) (drop_split bytes run.span.start place low) ∙ lines_apart end front rest kept.whole in
+    ap (lines end) (drop_split bytes run.span.start place low) ∙ lines_behind end front rest kept.whole in
     let told = left ∙ (ap (told_of_lines q at seen) ahead
     ∙ (told_apart q at seen run.span.start (length (lines end gap)) gap more (inl texts.next.whole) start refl
     ∙ (ap (λ xs. xs ++ told_of_lines q run.span.start (seen + length (lines end gap)) (lines end more)) none

@@ -12,13 +12,13 @@ use Rattle.std.proofs.lemmas.List.Elements.{filter-append}
 use Rattle.std.proofs.Math.Seq.{drop-append_seam}
 use Rattle.pg_pattern.specs.Parts.{AreParts, none, more}
 use Rattle.pg_pattern.proofs.PartLaws.{parts_are_parts}
-use Rattle.pg_lines.specs.Search.{Search, terminator, bounds_of}
-use Rattle.pg_lines.specs.Selection.{selects, parts}
+use Rattle.pg_selection.specs.Search.{Search, terminator, bounds_of}
+use Rattle.pg_selection.specs.Selection.{selects, parts}
 use Rattle.pg_blocks.specs.Lines.{lines, terminated}
-use Rattle.pg_lines.specs.BlockParts.{part_at, parts_of_lines}
-use Rattle.pg_lines.specs.Runs.{AreRuns}
-use Rattle.pg_lines.specs.declared.run.Run.{Run}
-use Rattle.pg_lines.specs.declared.run.Part.{Part}
+use Rattle.pg_selection.specs.BlockParts.{part_at, parts_of_lines}
+use Rattle.pg_selection.specs.Runs.{AreRuns}
+use Rattle.pg_selection.specs.declared.run.Run.{Run}
+use Rattle.pg_selection.specs.declared.run.Part.{Part}
 use Rattle.pg_blocks.proofs.LineLaws.{lines_are_lines}
 use Rattle.pg_rows.specs.declared.format.Format.{Format}
 use Rattle.pg_rows.specs.Colors.{in_color, part_color}

@@ -7,9 +7,9 @@ use Rattle.std.proofs.Common.{append_assoc, length-append, length-drop}
 use Rattle.circular_buffer.specs.Buffer.{keep_last}
 use Rattle.std.proofs.lemmas.List.{append-nil, drop-append-le, drop-drop, drop_all}
 use Rattle.std.proofs.Math.Seq.{drop-append_seam, take-nil}
-use Rattle.pg_lines.specs.Search.{Search, terminator}
+use Rattle.pg_selection.specs.Search.{Search, terminator}
 use Rattle.pg_blocks.specs.Lines.{lines, AreWhole}
-use Rattle.pg_blocks.proofs.LineLemmas.{lines-append}
+use Rattle.pg_selection.proofs.RunLemmas.{lines_behind}
 use Rattle.pg_rows.specs.declared.format.Format.{Format}
 use Rattle.pg_rows.specs.declared.progress.Progress.{Progress}
 use Rattle.pg_rows.specs.Output.{context, gap_text, has_separators, painted, size_of, when, is_below}
@@ -101,16 +101,6 @@ kept_part q format name earlier hidden p t l ls told window selected below =
     ∙ ap (λ n. lead ((p.number + 1) - leading format p) (keep_last (leading format p) hidden)
     ++ marked_rows format end name 58 (painted q format) (n + 1) t.offset (l ∷ ls)) (sym told.number)))
 
--- Lines of which the first ones are whole, or all.
-
-pub lines_apart : (end : ℕ) (front rest : List ℕ) → AreWhole end front ⊎ (rest ≡ [])
-    → lines end (front ++ rest) ≡ lines end front ++ lines end rest
-lines_apart end front rest (inl whole) = lines-append end front rest whole
-lines_apart end front rest (inr none) =
-    ap (λ xs. lines end (front ++ xs)) none
-    ∙ (ap (lines end) (append-nil front)
-    ∙ (sym (append-nil (lines end front)) ∙ ap (λ xs. lines end front ++ lines end xs) (sym none)))
-
 -- The place behind a stretch.
 
 pub behind_front : (at : ℕ) (bytes front rest : List ℕ) → at ≤ length bytes → drop at bytes ≡ front ++ rest
@@ -160,7 +150,7 @@ moves : (q : Search) (format : Format) (c : Cursor) (hidden hidden' : List (List
     (seen + length (lines (terminator q) front))
 moves q format c hidden hidden' bytes before after p later at seen h front rest more joins whole rows told window =
     let end = terminator q in
-    let apart = lines_apart end front rest whole in
+    let apart = lines_behind end front rest whole in
     let next = behind_front at bytes front rest h.within joins in
     let u = run q format h.trail (lines end front) in
     let all : lines end (drop at bytes) ≡ lines end front ++ lines end rest = ap (lines end) joins ∙ apart in

@@ -8,13 +8,13 @@ use Rattle.circular_buffer.specs.Buffer.{keep_last}
 use Rattle.std.proofs.lemmas.Bool.{and_parts, cases_lt, cases_eq, cases_Bool, eq-eqb, false≢true, ne_eqb, not-true}
 use Rattle.std.proofs.Math.Seq.{take-nil}
 use Rattle.std.proofs.lemmas.List.{drop_more, append-nil, drop-drop, drop-take, length-take-le}
-use Rattle.pg_lines.specs.Search.{Search, SearchText, terminator, terminator_of, HasItsTrees}
-use Rattle.pg_lines.specs.Searched.{Searched, lines_of}
+use Rattle.pg_selection.specs.Search.{Search, SearchText, terminator, terminator_of, HasItsTrees}
+use Rattle.pg_selection.specs.Searched.{Searched, lines_of}
 use Rattle.pg_blocks.specs.Lines.{lines}
-use Rattle.pg_lines.specs.Runs.{AreRuns, HasRuns}
-use Rattle.pg_lines.specs.BlockParts.{HasParts}
-use Rattle.pg_lines.specs.declared.run.Run.{Run}
-use Rattle.pg_lines.specs.declared.run.Part.{Part}
+use Rattle.pg_selection.specs.Runs.{AreRuns, HasRuns}
+use Rattle.pg_selection.specs.BlockParts.{HasParts}
+use Rattle.pg_selection.specs.declared.run.Run.{Run}
+use Rattle.pg_selection.specs.declared.run.Part.{Part}
 use Rattle.pg_rows.proofs.ModeLemmas.{rows_are}
 use Rattle.pg_rows.specs.declared.format.Format.{Format}
 use Rattle.pg_rows.specs.declared.progress.Progress.{Progress}

@@ -10,7 +10,7 @@ use Rattle.std.proofs.lemmas.Bool.Decides.{nat_tests}
 use Rattle.std.proofs.lemmas.List.{append-nil, drop_more}
 use Rattle.pg_blocks.specs.Lines.{terminated}
 use Rattle.pg_rows.specs.declared.format.Format.{Format}
-use Rattle.pg_lines.specs.declared.run.Part.{Part}
+use Rattle.pg_selection.specs.declared.run.Part.{Part}
 use Rattle.pg_rows.specs.Colors.{in_color, name_color, number_color, mark_color, part_color}
 use Rattle.pg_rows.specs.Output.{is_nothing, name_end, name_text, number_text, has_prefix, size_of, tab_before, when}
 use Rattle.pg_rows.specs.Output.{row}

@@ -6,11 +6,11 @@ use Rattle.std.proofs.Common.{length-drop}
 use Rattle.std.proofs.lemmas.Bool.{cases_lt}
 use Rattle.std.proofs.lemmas.List.{take_at, length-take-le, append_cancel_left}
 use Rattle.std.proofs.lemmas.List.Folds.{drop_split}
-use Rattle.pg_lines.specs.Search.{Search, terminator}
-use Rattle.pg_lines.specs.Selection.{selects}
+use Rattle.pg_selection.specs.Search.{Search, terminator}
+use Rattle.pg_selection.specs.Selection.{selects}
 use Rattle.pg_blocks.specs.Lines.{lines, AreWhole}
-use Rattle.pg_lines.specs.Runs.{AreRuns, IsNextRun}
-use Rattle.pg_lines.specs.declared.run.Run.{Run}
+use Rattle.pg_selection.specs.Runs.{AreRuns, IsNextRun}
+use Rattle.pg_selection.specs.declared.run.Run.{Run}
 use Rattle.pg_rows.specs.declared.format.Format.{Format}
 use Rattle.pg_rows.specs.declared.progress.Progress.{Progress}
 use Rattle.pg_rows.specs.Output.{is_below, painted}

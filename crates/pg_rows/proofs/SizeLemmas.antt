@@ -5,8 +5,8 @@ use Rattle.std.specs.List.{onto_first}
 use Rattle.std.proofs.Common.{◌==◌, ◌++◌, length, take, drop, refl, ap, ◌∙◌, arith, length-append}
 use Rattle.circular_buffer.specs.Buffer.{keep_last}
 use Rattle.std.proofs.lemmas.List.{take-append-drop}
-use Rattle.pg_lines.specs.Search.{Search}
-use Rattle.pg_lines.specs.Selection.{selects}
+use Rattle.pg_selection.specs.Search.{Search}
+use Rattle.pg_selection.specs.Selection.{selects}
 use Rattle.pg_blocks.specs.Lines.{lines, terminated, AreWhole}
 use Rattle.pg_blocks.proofs.LineLemmas.{terminated-lines}
 use Rattle.pg_rows.specs.declared.format.Format.{Format}

@@ -8,8 +8,8 @@ use Rattle.circular_buffer.specs.Buffer.{keep_last}
 use Rattle.std.proofs.lemmas.Bool.{lt-ltb, le-ltb, lt-leb, le-leb, ltb-true, and_from, and_left, and_right, cases_lt}
 use Rattle.std.proofs.lemmas.List.{append-nil, drop-append-le, drop-drop}
 use Rattle.std.proofs.Math.Seq.{drop-nil}
-use Rattle.pg_lines.specs.Search.{Search, terminator}
-use Rattle.pg_lines.specs.Selection.{selects}
+use Rattle.pg_selection.specs.Search.{Search, terminator}
+use Rattle.pg_selection.specs.Selection.{selects}
 use Rattle.pg_rows.specs.declared.format.Format.{Format}
 use Rattle.pg_rows.specs.Output.{is_below, context, gap_text, size_of, when, row, has_separators, painted}
 use Rattle.pg_rows.specs.Trail.{Trail, keeps, after_kept, after_context, after_other, step, run, run_rows, pieces_in}

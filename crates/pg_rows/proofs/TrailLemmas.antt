@@ -5,16 +5,15 @@ use Rattle.std.proofs.Common.{refl, sym, ap, ◌∙◌, subst, arith, append_ass
 use Rattle.std.specs.List.{range_with_len, list_any, filter, flat_map, count_by}
 use Rattle.circular_buffer.specs.Buffer.{keep_last}
 use Rattle.std.proofs.lemmas.Bool.{false≢true, le-leb, lt-leb, lt-ltb, le-ltb, ltb-true, ltb-false, cases_lt}
-use Rattle.std.proofs.lemmas.Bool.{cases_Bool}
+use Rattle.std.proofs.lemmas.Bool.{cases_Bool, cases_eq}
 use Rattle.std.proofs.lemmas.List.{append-nil, get_or_append_left, get_or_push, take-append-le, take_at, length_push}
 use Rattle.std.proofs.lemmas.List.{take-append-drop, drop-append-le, drop-drop, get_or-drop, drop_all}
 use Rattle.std.proofs.Math.Seq.{take-add}
 use Rattle.std.proofs.lemmas.List.Concat.{flat_map-append}
 use Rattle.std.proofs.lemmas.List.Elements.{filter-append}
 use Rattle.std.proofs.lemmas.List.Sums.{sum_by_push}
-use Rattle.pg_lines.specs.Search.{Search, terminator}
-use Rattle.pg_lines.specs.Selection.{selects}
-use Rattle.pg_lines.proofs.HitLemmas.{some_in_range}
+use Rattle.pg_selection.specs.Search.{Search, terminator}
+use Rattle.pg_selection.specs.Selection.{selects}
 use Rattle.pg_rows.specs.declared.format.Format.{Format}
 use Rattle.pg_rows.specs.Output.{line_at, line_start, size_of, is_below, is_kept, is_near, context, members, when}
 use Rattle.pg_rows.specs.Output.{row, has_separators}
@@ -101,6 +100,23 @@ filter_same p p' a (suc n) h =
 one_or_none : (t : Bool) (x : ℕ) → length (cond t (x ∷ []) []) ≡ cond t 1 0
 one_or_none true x = refl
 one_or_none false x = refl
+
+-- a test of some number of a range
+some_in_range : (f : ℕ → Bool) (a n i : ℕ) → a ≤ i → i < a + n → f i ≡ true
+    → list_any f (range_with_len a n) ≡ true
+some_in_range f a zero i low high e = absurd (omega arith)
+some_in_range f a (suc n) i low high e = elim (cases_eq a i) [
+  | inl same ↦ or_left (f a) _ (ap f same ∙ e)
+  | inr ne ↦ or_right (f a) _ (some_in_range f (a + 1) n i (omega arith) (omega arith) e)
+]
+  where
+    or_right : (b c : Bool) → c ≡ true → (b || c) ≡ true
+    or_right true c e = refl
+    or_right false c e = e
+
+    or_left : (b c : Bool) → b ≡ true → (b || c) ≡ true
+    or_left true c e = refl
+    or_left false c e = absurd (false≢true e)
 
 put_last : (set : ℕ → Bool) (emit : ℕ → List ℕ) (n : ℕ)
     → put set emit 0 (suc n) ≡ put set emit 0 n ++ cond (set n) (emit n) []

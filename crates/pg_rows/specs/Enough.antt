@@ -1,9 +1,9 @@
 -- When what was read of a file settles what it gives (XCU grep, -l and -q; GNU grep, -m).
 use Rattle.std.specs.Prelude.{ℕ, Bool, false, not, nat_lt, ◌&&◌, if◌then◌else◌, List, [], ◌∷◌, length}
 use Rattle.std.specs.List.{list_any, count_by}
-use Rattle.pg_lines.specs.Search.{Search, terminator}
+use Rattle.pg_selection.specs.Search.{Search, terminator}
 use Rattle.pg_blocks.specs.Lines.{lines}
-use Rattle.pg_lines.specs.Selection.{selects}
+use Rattle.pg_selection.specs.Selection.{selects}
 use Rattle.pg_rows.specs.declared.format.Format.{Format}
 use Rattle.pg_rows.specs.declared.format.Mode.{Mode}
 use Rattle.pg_rows.specs.Modes.{shows_rows, settles_at_first, is_quiet}

@@ -5,9 +5,9 @@ use Rattle.std.specs.Prelude.{is_some, Option, Some, None, List, [], ◌∷◌, 
 use Rattle.std.specs.Prelude.{slice_index_or, unwrap_or}
 use Rattle.std.specs.List.{list_any, filter, flat_map, range_with_len, count_by}
 use Rattle.std.specs.Fmt.{decimal}
-use Rattle.pg_lines.specs.Search.{Search, terminator}
+use Rattle.pg_selection.specs.Search.{Search, terminator}
 use Rattle.pg_blocks.specs.Lines.{lines}
-use Rattle.pg_lines.specs.Selection.{selects, parts}
+use Rattle.pg_selection.specs.Selection.{selects, parts}
 use Rattle.pg_rows.specs.Marks.{colon, hyphen, newline, tab}
 use Rattle.pg_base.specs.Entries.{Entry, Missed, Read, is_running, is_failed}
 use Rattle.pg_rows.specs.declared.format.Format.{Format}

@@ -1,9 +1,9 @@
 -- How lines are written with their matched parts in color.
 use Rattle.std.specs.Prelude.{◌≡◌, ℕ, ◌+◌, ◌≤◌, nat_lt, true, Bool, if◌then◌else◌, List, [], ◌∷◌, ◌++◌, drop, length}
 use Rattle.std.specs.Prelude.{slice_range}
-use Rattle.pg_lines.specs.Search.{Search, terminator}
+use Rattle.pg_selection.specs.Search.{Search, terminator}
 use Rattle.pg_blocks.specs.Lines.{lines}
-use Rattle.pg_lines.specs.declared.run.Part.{Part}
+use Rattle.pg_selection.specs.declared.run.Part.{Part}
 use Rattle.pg_rows.specs.declared.colors.Color.{Color}
 use Rattle.pg_rows.specs.declared.colors.Color.TheVariants.{Name, Number, Mark, Part as Matched}
 use Rattle.pg_rows.specs.Colors.{in_color, name_color, number_color, mark_color, part_color}

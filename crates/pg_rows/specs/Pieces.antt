@@ -1,11 +1,11 @@
 -- The matched parts of a block, and up to which line they are shown.
 use Rattle.std.specs.Prelude.{◌≡◌, ℕ, ◌+◌, if◌then◌else◌, Option, List, [], ◌∷◌, ◌++◌, length, map}
-use Rattle.pg_lines.specs.Search.{Search, terminator}
-use Rattle.pg_lines.specs.Selection.{selects}
+use Rattle.pg_selection.specs.Search.{Search, terminator}
+use Rattle.pg_selection.specs.Selection.{selects}
 use Rattle.pg_blocks.specs.Lines.{lines}
-use Rattle.pg_lines.specs.BlockParts.{part_at, parts_of_lines}
-use Rattle.pg_lines.specs.declared.run.Run.{Run}
-use Rattle.pg_lines.specs.declared.run.Part.{Part}
+use Rattle.pg_selection.specs.BlockParts.{part_at, parts_of_lines}
+use Rattle.pg_selection.specs.declared.run.Run.{Run}
+use Rattle.pg_selection.specs.declared.run.Part.{Part}
 use Rattle.pg_rows.specs.Output.{is_below, told_parts}
 use Rattle.pg_rows.specs.Remembered.{HasLines}
 

@@ -1,12 +1,12 @@
 -- What the numbers of a `Progress` tell of the lines so far.
 use Rattle.std.specs.Prelude.{◌≡◌, ℕ, ◌+◌, ◌-◌, nat_lt, min, true, Option, Some, None, List, ◌∷◌, length}
 use Rattle.pg_blocks.specs.Lines.{lines}
-use Rattle.pg_lines.specs.Search.{Search, terminator}
+use Rattle.pg_selection.specs.Search.{Search, terminator}
 use Rattle.pg_rows.specs.declared.format.Format.{Format}
 use Rattle.pg_rows.specs.declared.progress.Progress.{Progress}
-use Rattle.pg_lines.specs.declared.run.Run.{Run}
+use Rattle.pg_selection.specs.declared.run.Run.{Run}
 use Rattle.pg_rows.specs.Output.{context, is_below}
-use Rattle.pg_lines.specs.Runs.{AreRuns}
+use Rattle.pg_selection.specs.Runs.{AreRuns}
 use Rattle.pg_rows.specs.Trail.{Trail, no_lines, run}
 use Rattle.pg_rows.specs.Stretch.{AllSelected, AreUnkept}
 

@@ -1,8 +1,8 @@
 -- What a printer asks of a result, and what it promises to write of it.
 use Rattle.std.specs.Prelude.{◌≡◌, ℕ, ◌+◌, ◌<◌, ◌^◌, List, length, IfOk, OnErr, Result}
 use Rattle.pg_base.specs.Sink.{Stream, WritesText, WritesPart}
-use Rattle.pg_lines.specs.Search.{Search, terminator, HasItsTrees}
-use Rattle.pg_lines.specs.Searched.{Searched, lines_of}
+use Rattle.pg_selection.specs.Search.{Search, terminator, HasItsTrees}
+use Rattle.pg_selection.specs.Searched.{Searched, lines_of}
 use Rattle.pg_rows.specs.declared.format.Format.{Format}
 use Rattle.pg_rows.specs.declared.printer.Printer.{Printer}
 use Rattle.pg_rows.specs.declared.printer.Printed.{Printed}

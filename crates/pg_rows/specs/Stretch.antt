@@ -4,9 +4,9 @@ use Rattle.std.specs.Prelude.{length, drop, not, slice_index_or, slice_range, Ve
 use Rattle.std.specs.List.{AllByRecursion, flat_map, filter}
 use Rattle.std.specs.Fmt.{decimal}
 use Rattle.circular_buffer.specs.Buffer.{keep_last}
-use Rattle.pg_lines.specs.Search.{Search}
-use Rattle.pg_lines.specs.Selection.{selects}
-use Rattle.pg_lines.specs.declared.run.Part.{Part}
+use Rattle.pg_selection.specs.Search.{Search}
+use Rattle.pg_selection.specs.Selection.{selects}
+use Rattle.pg_selection.specs.declared.run.Part.{Part}
 use Rattle.pg_rows.specs.Marks.{colon}
 use Rattle.pg_rows.specs.declared.format.Format.{Format}
 use Rattle.pg_rows.specs.declared.position.Position.{Position}

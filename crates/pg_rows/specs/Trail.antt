@@ -3,8 +3,8 @@ use Rattle.std.specs.Prelude.{ℕ, ◌+◌, ◌-◌, nat_lt, nat_le, Bool, true,
 use Rattle.std.specs.Prelude.{◌++◌, length, slice_range}
 use Rattle.std.specs.List.{fold, flat_map}
 use Rattle.circular_buffer.specs.Buffer.{keep_last}
-use Rattle.pg_lines.specs.Search.{Search, terminator}
-use Rattle.pg_lines.specs.Selection.{selects}
+use Rattle.pg_selection.specs.Search.{Search, terminator}
+use Rattle.pg_selection.specs.Selection.{selects}
 use Rattle.pg_rows.specs.Marks.{colon, hyphen}
 use Rattle.pg_rows.specs.declared.format.Format.{Format}
 use Rattle.pg_rows.specs.Output.{is_below, context, size_of, when, row, gap_text, has_separators}

@@ -8,7 +8,7 @@ ghost use Rattle.pg_base.specs.Sink.{WritesText};
 
 use crate::format::Format;
 use pg_base::{Sink, WriteError, write_all};
-use pg_lines::Part;
+use pg_selection::Part;
 
 /// What stands in a color of its own.
 #[derive(Clone, Copy)]

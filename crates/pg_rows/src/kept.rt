@@ -1,7 +1,7 @@
 //! The rows of kept lines.
 ghost use Rattle.std.specs.Prelude.{◌≡◌, ◌≤◌, length, drop, true};
 ghost use Rattle.pg_blocks.specs.Lines.{lines};
-ghost use Rattle.pg_lines.specs.Search.{Search};
+ghost use Rattle.pg_selection.specs.Search.{Search};
 ghost use Rattle.pg_rows.specs.Marks.{colon};
 ghost use Rattle.pg_rows.specs.Painting.{painted_bytes, AreToldParts, AreWithin};
 ghost use Rattle.pg_rows.specs.Steps.{shown_kept, AreKeptParts, CanNumberRun};
@@ -14,7 +14,7 @@ use crate::printer::Printer;
 use crate::rows::{has_painted_text, write_lines, write_painted_text};
 use pg_base::{Sink, WriteError};
 use pg_blocks::line_end;
-use pg_lines::Part;
+use pg_selection::Part;
 use std::alloc::Allocator;
 
 /// What stands behind the name and the numbers of a line that is kept.

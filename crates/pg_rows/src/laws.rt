@@ -1,7 +1,7 @@
 //! Laws of the definitions that contracts cite. They speak of all values, and a call does nothing.
 ghost use Rattle.std.specs.Prelude.{◌≡◌, ◌++◌, ℕ, Bool, true, false, List, []};
 ghost use Rattle.std.specs.List.{Contains};
-ghost use Rattle.pg_lines.specs.Search.{Search, terminator};
+ghost use Rattle.pg_selection.specs.Search.{Search, terminator};
 ghost use Rattle.pg_blocks.specs.Lines.{AreWhole, lines};
 ghost use Rattle.pg_rows.specs.declared.format.Format.{Format};
 ghost use Rattle.pg_rows.specs.declared.format.Mode.{Mode};

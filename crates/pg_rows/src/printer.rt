@@ -4,7 +4,7 @@ ghost use Rattle.std.specs.Prelude.{length, drop, if◌then◌else◌};
 ghost use Rattle.std.specs.Prelude.{true, false, nat_lt};
 ghost use Rattle.std.specs.Prelude.{Some};
 ghost use Rattle.std.specs.Arc.{arc_value};
-ghost use Rattle.pg_lines.specs.Search.{Search, terminator};
+ghost use Rattle.pg_selection.specs.Search.{Search, terminator};
 ghost use Rattle.pg_rows.specs.Pieces.{cut_at};
 ghost use Rattle.pg_rows.specs.Places.{FirstLines};
 ghost use Rattle.pg_rows.specs.Remembered.{HasLines};
@@ -22,7 +22,7 @@ use crate::rows::{size_of_lines, write_count, write_gap, write_lines, write_name
 use crate::window::Window;
 use pg_base::{Sink, WriteError};
 use pg_blocks::Block;
-use pg_lines::{BlockResult, Part, Query, Run};
+use pg_selection::{BlockResult, Part, Run, Selector};
 use std::alloc::{AllocError, Allocator, Global};
 use std::sync::Arc;
 
@@ -118,7 +118,7 @@ impl<A: Allocator> Drop for Printer<A> {
 }
 
 impl<A: Allocator> Printer<A> {
-    ghost use Rattle.pg_lines.specs.Search.{HasItsTrees};
+    ghost use Rattle.pg_selection.specs.Search.{HasItsTrees};
     ghost use Rattle.pg_rows.specs.Results.{MayPrint, WritesResult, IsRemembered, RemembersResult};
     ghost use Rattle.pg_rows.specs.Results.{ComesToLast, StopsWithin};
     ghost use Rattle.pg_rows.specs.Cursor.{Cursor, at_start};
@@ -132,21 +132,21 @@ impl<A: Allocator> Printer<A> {
     ghost use Rattle.pg_rows.specs.Steps.{gap_lines, shown_before, shown_leading, shown_passed, shown_step};
     ghost use Rattle.pg_rows.specs.Steps.{ComesBehind, HasLeading, MayStep, StepsOver, TakesParts};
 
-    /// A printer to which nothing was given, for the rows of a query. It reserves the room of its window.
+    /// A printer to which nothing was given, for the rows of selected lines. It reserves the room of its window.
     ///
     /// # Errors
     ///
     /// `AllocError` where a request for memory is refused.
-    pub fn new(alloc: A, query: &Query<A>, format: Format) -> Result<Printer<A>, AllocError>
+    pub fn new(alloc: A, selector: &Selector<A>, format: Format) -> Result<Printer<A>, AllocError>
     where
         A: Copy,
-        ensures { (q : Search) → q.text ≡ query.now.text → IfOk result (λ p. IsAtCursor p q format at_start) }
+        ensures { (q : Search) → q.text ≡ selector.now → IfOk result (λ p. IsAtCursor p q format at_start) }
     {
         let window = Window::new(alloc, usize::from(format.before.unwrap_or(0)))?;
         let prefix = Prefix::new(alloc, b"")?;
         Ok(Printer {
             format,
-            end: query.terminator(),
+            end: selector.terminator(),
             prefix,
             earlier: false,
             progress: Progress::new(),

@@ -2,7 +2,7 @@
 ghost use Rattle.std.specs.Prelude.{◌≡◌, ◌+◌, ◌-◌, ◌^◌, ◌<◌, ◌≤◌, true, option_map};
 
 use crate::format::Format;
-use pg_lines::Run;
+use pg_selection::Run;
 
 /// What is remembered of the lines of a file, without their texts.
 ///

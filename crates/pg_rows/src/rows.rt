@@ -15,7 +15,7 @@ use crate::prefix::Prefix;
 use itoa::Buffer;
 use pg_base::{Sink, WriteError, write_all};
 use pg_blocks::end_of_line;
-use pg_lines::Part;
+use pg_selection::Part;
 use std::alloc::Allocator;
 
 /// Whether the last of some lines lacks its terminator.

@@ -4,9 +4,9 @@ use Rattle.std.proofs.Common.{◌∷◌}
 use Rattle.std.proofs.Common.{refl, ap}
 use Rattle.std.specs.List.{count_by, list_any}
 use Rattle.std.proofs.lemmas.Bool.{false≢true, and_parts, not-true}
-use Rattle.pg_lines.specs.Search.{Search, terminator}
+use Rattle.pg_selection.specs.Search.{Search, terminator}
 use Rattle.pg_blocks.specs.Lines.{lines}
-use Rattle.pg_lines.specs.Selection.{selects}
+use Rattle.pg_selection.specs.Selection.{selects}
 use Rattle.pg_rows.specs.Enough.{is_full, is_trailed, lines_suffice, file_suffices, is_enough}
 use Rattle.pg_rows.specs.Modes.{is_quiet, shows_rows, settles_at_first}
 use Rattle.pg_base.specs.Entries.{Entry, Missed, Read, is_running}

@@ -4,13 +4,12 @@ use Rattle.std.proofs.Common.{List, [], ◌∷◌, ◌++◌, length, refl, sym, 
 use Rattle.std.specs.List.{Contains, list_all}
 use Rattle.std.specs.Option.{IsSome, MatchOption}
 use Rattle.std.specs.Result.{IsErr, IsErrAnd, IsErrOf, IfErr, OnErr, OnOk, MatchResult}
-use Rattle.std.specs.Arc.{arc_value}
 use Rattle.std.proofs.lemmas.Bool.{eq-eqb, false≢true}
 use Rattle.std.proofs.lemmas.List.{append-nil, get_or_at, length_push}
 use Rattle.std.proofs.lemmas.List.Folds.{list_all-append}
-use Rattle.pg_lines.specs.Search.{terminator}
+use Rattle.pg_selection.specs.Search.{terminator}
 use Rattle.pg_blocks.specs.Blocks.{BlockData}
-use Rattle.pg_lines.specs.Searched.{Searched}
+use Rattle.pg_selection.specs.Searched.{Searched}
 use Rattle.pg_rows.specs.Output.{HasRoom, output, status}
 use Rattle.pg_rows.specs.Enough.{is_enough}
 use Rattle.pg_base.specs.Sink.{Stream, IsBeginning}
@@ -69,7 +68,7 @@ all_push keys bs b e =
     ∙ ap (λ t. t && true) (own_key keys b))
 
 -- a new engine
-pub holds_new : {A : Type 0} (engine : Engine A) (aim : Aim) → (arc_value engine.query).text ≡ aim.query.text
+pub holds_new : {A : Type 0} (engine : Engine A) (aim : Aim) → engine.query.text ≡ aim.query.text
     → engine.setup ≡ aim.setup → engine.files ≡ 0 → waiting engine ≡ []
     → IsAfter engine.sequencer (start aim.query (format_of aim)) → HasPlan engine aim [] aim.out
 holds_new engine aim same set count none stands = record {
@@ -153,7 +152,7 @@ module _ {A : Type 0} {engine : Engine A} {aim : Aim} {steps : List Step} {out :
   broke_step s m = record { cause = tt; part = (h.written, safe_step s m, h.got); calm = h.calm }
 
   -- a step that gives no result
-  pub holds_step : (engine' : Engine A) (s : Step) → MayStep aim steps s → (arc_value engine'.query).text
+  pub holds_step : (engine' : Engine A) (s : Step) → MayStep aim steps s → engine'.query.text
       ≡ aim.query.text
       → engine'.setup ≡ aim.setup → engine'.files ≡ opened (s ∷ steps)
       → announced (s ∷ steps) ≡ h.taken ++ waiting engine' → IsAfter engine'.sequencer (planned past s)
@@ -176,7 +175,7 @@ module _ {A : Type 0} {engine : Engine A} {aim : Aim} {steps : List Step} {out :
 
   -- the next block was announced, and waits
   pub holds_waiting : (engine' : Engine A) (b : BlockData) → MayStep aim steps (Announces b)
-      → (arc_value engine'.query).text ≡ aim.query.text → engine'.setup ≡ aim.setup → engine'.files ≡ opened steps
+      → engine'.query.text ≡ aim.query.text → engine'.setup ≡ aim.setup → engine'.files ≡ opened steps
       → waiting engine' ≡ waiting engine ++ b ∷ [] → IsAfter engine'.sequencer (planned past (Announces b))
       → HasPlan engine' aim (Announces b ∷ steps) out
   holds_waiting engine' b m same set count more stands =
@@ -204,7 +203,7 @@ module _ {A : Type 0} {engine : Engine A} {aim : Aim} {steps : List Step} {out :
 
   -- the next block was announced, and its result kept
   pub holds_block : (engine' : Engine A) (b : BlockData) (r : Searched) → MayStep aim steps (Announces b)
-      → (arc_value engine'.query).text ≡ aim.query.text → engine'.setup ≡ aim.setup → engine'.files ≡ opened steps
+      → engine'.query.text ≡ aim.query.text → engine'.setup ≡ aim.setup → engine'.files ≡ opened steps
       → waiting engine ≡ [] → waiting engine' ≡ [] → r ≡ record { query = aim.query.text; block = b }
       → IsAfter engine'.sequencer (arrived (planned past (Announces b)) r)
       → HasPlan engine' aim (Announces b ∷ steps) out
@@ -254,7 +253,7 @@ module _ {A : Type 0} {engine : Engine A} {aim : Aim} {steps : List Step} {out :
 
   -- a drain that writes all
   pub holds_drained : (engine' : Engine A) (text : List ℕ) (out' : Stream)
-      → (arc_value engine'.query).text ≡ aim.query.text → engine'.setup ≡ aim.setup → engine'.files ≡ opened steps
+      → engine'.query.text ≡ aim.query.text → engine'.setup ≡ aim.setup → engine'.files ≡ opened steps
       → waiting engine' ≡ [] → out'.taken ≡ out.taken ++ text → out'.failures ≡ out.failures
       → Drained (Ok tt) calm_past text
       → IsAfter engine'.sequencer (drained calm_past text (Ok tt)) → HasPlan engine' aim steps out'

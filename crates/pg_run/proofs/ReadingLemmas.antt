@@ -6,7 +6,7 @@ use Rattle.std.proofs.Common.{append_assoc, length-append}
 use Rattle.std.specs.List.{Any}
 use Rattle.std.specs.Result.{IfOk}
 use Rattle.std.proofs.lemmas.List.{append-nil}
-use Rattle.pg_lines.specs.Search.{terminator}
+use Rattle.pg_selection.specs.Search.{terminator}
 use Rattle.pg_blocks.specs.Lines.{lines, AreShort, AreWhole}
 use Rattle.pg_blocks.specs.Blocks.{BlockData, joined}
 use Rattle.pg_blocks.specs.Cutter.{fed as fed_after, handed as handed_out, IsCutterAfter, Fed}

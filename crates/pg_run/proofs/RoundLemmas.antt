@@ -12,9 +12,9 @@ use Rattle.std.proofs.lemmas.List.Elements.{Contains-append_right}
 use Rattle.std.proofs.lemmas.List.Folds.{list_all-append}
 use Rattle.std.proofs.lemmas.Option.{slice_get_within, slice_get-map, get_or_from_slice_get}
 use Rattle.pg_blocks.specs.Lines.{AreShort}
-use Rattle.pg_lines.specs.Search.{SearchText, terminator, terminator_of}
+use Rattle.pg_selection.specs.Search.{SearchText, terminator, terminator_of}
 use Rattle.pg_blocks.specs.Blocks.{BlockData}
-use Rattle.pg_lines.specs.Searched.{Searched}
+use Rattle.pg_selection.specs.Searched.{Searched}
 use Rattle.pg_seq.specs.declared.answers.Arrival.{Arrival}
 use Rattle.pg_seq.specs.declared.answers.Arrival.TheVariants.{Taken, Double, Stranger}
 use Rattle.pg_seq.specs.Plan.{Step, Opens, Announces, Ends, Misses, IsShaped, IsPlan, announced}
@@ -214,7 +214,7 @@ module _ {A : Type 0} {engine : Engine A} {aim : Aim} {steps : List Step} {out :
       let P : List Step → Type 0 = λ p. IsBeginning (h.written ++ text) (output_of aim p) in
       subst P h.planned s
 
-  module _ (engine' : Engine A) (out' : Stream) (same : (arc_value engine'.query).text ≡ aim.query.text)
+  module _ (engine' : Engine A) (out' : Stream) (same : engine'.query.text ≡ aim.query.text)
       (set : engine'.setup ≡ aim.setup) (count : engine'.files ≡ opened steps) (none : waiting engine' ≡ [])
       (text : SearchText) (own : text ≡ aim.query.text)
       (round : HasRound (IsAfter engine'.sequencer) past text engine.round.items out.taken out'.taken)

@@ -7,7 +7,7 @@ use Rattle.std.specs.List.{list_any}
 use Rattle.std.specs.Result.{IfOk, IfErr}
 use Rattle.std.proofs.lemmas.Bool.{false≢true}
 use Rattle.std.proofs.lemmas.List.{append-nil}
-use Rattle.pg_lines.specs.Search.{Search, SearchText, Pattern, AreTreesOf, search_of, terminator}
+use Rattle.pg_selection.specs.Search.{Search, SearchText, Pattern, AreTreesOf, search_of, terminator}
 use Rattle.pg_blocks.specs.Cutter.{unfed, IsCutterAfter}
 use Rattle.pg_base.specs.declared.cause.Cause.{Cause}
 use Rattle.pg_base.specs.declared.cause.Cause.TheVariants.{ReadFailed}

@@ -3,7 +3,7 @@ use Rattle.std.specs.Prelude.{◌≡◌, ◌⊎◌, ℕ, ◌<◌, true, false, L
 use Rattle.std.specs.List.{list_all}
 use Rattle.std.specs.Result.{IfOk, MatchResult, OnOk}
 use Rattle.std.specs.Arc.{arc_value}
-use Rattle.pg_lines.specs.Search.{Search, SearchText, HasItsTrees, terminator}
+use Rattle.pg_selection.specs.Search.{Search, SearchText, HasItsTrees, terminator}
 use Rattle.pg_blocks.specs.Blocks.{BlockData}
 use Rattle.pg_blocks.specs.Cutter.{IsCutterAfter, IsDrained, unfed}
 use Rattle.pg_blocks.specs.declared.cutter.Cutter.{Cutter}
@@ -56,7 +56,7 @@ MayStep aim steps step = MayFollow (terminator aim.query) steps step
 -- The engine's sequencer has this plan. Of its blocks it took the first ones, and the others wait in the engine's
 -- round. The writer took a beginning of what the plan gives, and didn't fail.
 pub record HasPlan {A : Type 0} (engine : Engine A) (aim : Aim) (steps : List Step) (out : Stream) : Type 0 where
-  pub same : (arc_value engine.query).text ≡ aim.query.text
+  pub same : engine.query.text ≡ aim.query.text
   pub set : engine.setup ≡ aim.setup
   pub count : engine.files ≡ opened steps
   pub events : List Event

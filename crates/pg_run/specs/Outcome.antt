@@ -1,8 +1,8 @@
 -- What a run did, by what its files gave.
 use Rattle.std.specs.Prelude.{◌≡◌, ◌⊎◌, ℕ, ◌<◌, ◌-◌, ◌^◌, true, false, List, [], ◌∷◌, ◌++◌, drop}
 use Rattle.std.specs.List.{list_any}
-use Rattle.pg_lines.specs.Search.{Search, SearchText, Pattern, AreTreesOf, HasItsTrees}
-use Rattle.pg_lines.specs.Search.{search_of, terminator, terminator_of}
+use Rattle.pg_selection.specs.Search.{Search, SearchText, Pattern, AreTreesOf, HasItsTrees}
+use Rattle.pg_selection.specs.Search.{search_of, terminator, terminator_of}
 use Rattle.pg_blocks.specs.Lines.{AreWhole}
 use Rattle.pg_lines.specs.Queries.{IsQueryFault}
 use Rattle.pg_lines.specs.declared.query.QueryFault.TheVariants.{OutOfMemory as NoMemoryForQuery}

@@ -2,7 +2,7 @@
 use Rattle.std.specs.Prelude.{◌≡◌, ◌⊎◌, ℕ, ◌+◌, ◌-◌, ◌<◌, ◌^◌, Bool, true, false, if◌then◌else◌, List, [], ◌∷◌, ◌++◌}
 use Rattle.std.specs.Prelude.{drop, Result}
 use Rattle.std.specs.Result.{MatchResult}
-use Rattle.pg_lines.specs.Search.{terminator}
+use Rattle.pg_selection.specs.Search.{terminator}
 use Rattle.pg_blocks.specs.Blocks.{joined}
 use Rattle.pg_blocks.specs.Cutter.{Fed, IsCutterAfter, IsDrained}
 use Rattle.pg_blocks.specs.declared.cutter.CutFault.{CutFault}

@@ -1,7 +1,6 @@
 //! Searches blocks, one after another or in rounds.
 ghost use Rattle.std.specs.Prelude.{◌≡◌, ◌+◌, ◌-◌, ◌<◌, ◌≤◌, ◌∷◌, ◌^◌, List, [], true, false, length};
 ghost use Rattle.std.specs.Prelude.{IfOk, MatchResult, OnOk};
-ghost use Rattle.std.specs.Arc.{arc_value};
 ghost use Rattle.pg_match.specs.Machines.{Fits};
 ghost use Rattle.pg_run.specs.Endless.{is_endless};
 ghost use Rattle.pg_run.specs.Scratches.{AreScratches};
@@ -44,7 +43,7 @@ pub(crate) struct Engine<A: Allocator + Copy = Global> {
     pub(crate) files: u32,
     /// So many of them were opened when all that could be was written last.
     written: u32,
-    query: Arc<Query<A>, A>,
+    query: Query<A>,
     /// For blocks that are searched at once.
     scratch: Scratch<A>,
     /// For rounds: the calling thread's, and one for each worker, as many as were needed by now.
@@ -60,8 +59,8 @@ pub(crate) struct Engine<A: Allocator + Copy = Global> {
     spare: Option<Vec<u8, A>>,
     /// Memory that blocks don't take while they wait. It is given back when they are searched, which needs some too.
     reserve: Option<Vec<u8, A>>,
-    ghost fits: { Fits scratch (arc_value query).machine },
-    ghost scratches_fit: { AreScratches 65 (arc_value query).machine scratches.items },
+    ghost fits: { Fits scratch query.machine },
+    ghost scratches_fit: { AreScratches 65 query.machine scratches.items },
     ghost endless: { spread ≡ true → is_endless setup.format ≡ true },
     ghost at_once: { spread ≡ false → round.items ≡ [] },
     ghost few: { length round.items ≤ setup.round },
@@ -186,10 +185,9 @@ impl<A: Allocator + Copy> Engine<A> {
     pub(crate) fn new(alloc: A, query: Query<A>, setup: Setup) -> Result<Engine<A>, AllocError>
         ensures { IfOk result (IsNewEngine query.text setup) }
     {
-        let query = Arc::new(alloc, query)?;
         let pace = Pace::new();
         let spread = is_spread(&query, &setup, pace);
-        let sequencer = Sequencer::new(alloc, Arc::try_clone(&query)?, setup.format)?;
+        let sequencer = Sequencer::new(alloc, Arc::try_clone(query.selector())?, setup.format)?;
         let scratch = scratch_for(alloc, &query)?;
         Ok(Engine {
             alloc,

@@ -7,12 +7,12 @@ use Rattle.std.specs.List.{AllByRecursion, list_any, list_all}
 use Rattle.std.proofs.lemmas.Bool.{false≢true, and_from}
 use Rattle.std.proofs.lemmas.List.{length-map, length-drop, map-append, drop-map, drop-drop, length_push}
 use Rattle.std.proofs.lemmas.List.Folds.{list_any-append}
-use Rattle.pg_lines.specs.Search.{Search, terminator, terminator_of}
+use Rattle.pg_selection.specs.Search.{Search, terminator, terminator_of}
 use Rattle.pg_blocks.specs.Lines.{lines}
-use Rattle.pg_lines.specs.Searched.{Searched, lines_of}
+use Rattle.pg_selection.specs.Searched.{Searched, lines_of}
 use Rattle.pg_blocks.specs.Blocks.{BlockData}
-use Rattle.pg_lines.specs.Runs.{AreRuns, HasRuns}
-use Rattle.pg_lines.specs.declared.run.Run.{Run}
+use Rattle.pg_selection.specs.Runs.{AreRuns, HasRuns}
+use Rattle.pg_selection.specs.declared.run.Run.{Run}
 use Rattle.pg_rows.specs.declared.progress.Progress.{Progress}
 use Rattle.pg_rows.specs.Modes.{is_quiet}
 use Rattle.pg_rows.specs.Output.{has_selected, output}

@@ -7,9 +7,9 @@ use Rattle.std.proofs.Math.ListN.{get_or-append}
 use Rattle.std.proofs.lemmas.Bool.{eq-eqb, ne_eqb, cases_eq, cases_lt}
 use Rattle.std.proofs.lemmas.List.{get_or_at, length_push}
 use Rattle.std.proofs.lemmas.Slice.Eq.{bytes_eq-Decides}
-use Rattle.pg_lines.specs.Search.{terminator}
-use Rattle.pg_lines.specs.Same.{same_text, text_equal}
-use Rattle.pg_lines.specs.Searched.{Searched}
+use Rattle.pg_selection.specs.Search.{terminator}
+use Rattle.pg_selection.specs.Same.{same_text, text_equal}
+use Rattle.pg_selection.specs.Searched.{Searched}
 use Rattle.pg_blocks.specs.Blocks.{BlockData}
 use Rattle.pg_seq.specs.declared.answers.Arrival.TheVariants.{Taken, Double, Stranger}
 use Rattle.pg_seq.specs.Plan.{Step, Opens, Announces, Ends, Misses, IsShaped, opened, announced, last_blocks}

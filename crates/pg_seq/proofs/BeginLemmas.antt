@@ -1,7 +1,7 @@
 -- What may be handed out is a beginning of each output that can still come.
 use Rattle.std.proofs.Common.{ℕ, Bool, true, false, cond, List, [], ◌∷◌, ◌++◌, sym, ap, ◌∙◌, subst, append_assoc}
 use Rattle.std.proofs.lemmas.List.{append-nil}
-use Rattle.pg_lines.specs.Search.{Search, terminator}
+use Rattle.pg_selection.specs.Search.{Search, terminator}
 use Rattle.pg_rows.specs.declared.format.Format.{Format}
 use Rattle.pg_base.specs.Entries.{Entry}
 use Rattle.pg_rows.specs.Output.{HasRoom, output}

@@ -5,7 +5,7 @@ use Rattle.std.specs.List.{AllByRecursion}
 use Rattle.std.proofs.lemmas.Bool.{false≢true}
 use Rattle.std.proofs.lemmas.List.{append-nil}
 use Rattle.std.proofs.lemmas.List.Concat.{flat_map-append}
-use Rattle.pg_lines.specs.Search.{Search, terminator}
+use Rattle.pg_selection.specs.Search.{Search, terminator}
 use Rattle.pg_blocks.specs.Lines.{lines}
 use Rattle.pg_blocks.specs.Blocks.{BlockData, EndsWith, joined}
 use Rattle.pg_blocks.proofs.LineLemmas.{lines-append}

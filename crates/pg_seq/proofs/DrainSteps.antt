@@ -6,9 +6,9 @@ use Rattle.std.specs.List.{AllByRecursion, list_any, list_all}
 use Rattle.std.proofs.lemmas.Bool.{false≢true, and_from}
 use Rattle.std.proofs.lemmas.List.{length_push}
 use Rattle.std.proofs.lemmas.List.Folds.{list_any-append}
-use Rattle.pg_lines.specs.Search.{Search, terminator, terminator_of}
+use Rattle.pg_selection.specs.Search.{Search, terminator, terminator_of}
 use Rattle.pg_blocks.specs.Lines.{lines}
-use Rattle.pg_lines.specs.Searched.{Searched, lines_of}
+use Rattle.pg_selection.specs.Searched.{Searched, lines_of}
 use Rattle.pg_blocks.specs.Blocks.{BlockData}
 use Rattle.pg_blocks.proofs.CountLemmas.{few_lines}
 use Rattle.pg_rows.specs.declared.format.Format.{Format}
@@ -411,7 +411,7 @@ module _ {A : Type 0} (s : Assembler A) (past : Past) (h : IsAfter s past) where
           results = each_push (λ slot. has_result slot ≡ true) h.gone slot h.given_up.results
               (ap (λ o. is_some o) is);
         };
-        query = h.query ∙ ap (λ q. q.value.text) (sym a.query);
+        query = h.query ∙ ap (λ s. s.value) (sym a.selector);
         trees = h.trees;
         format = h.format ∙ sym a.format;
         room = h.room;

@@ -4,11 +4,11 @@ use Rattle.pg_bytes.specs.Sets.{one}
 use Rattle.pg_pattern.specs.Patterns.{Set}
 use Rattle.pg_pattern.specs.Tests.{has_hit}
 use Rattle.pg_pattern.specs.Parts.{parts_from}
-use Rattle.pg_lines.specs.Search.{SearchText, Search, Split, Fixed, search_of}
+use Rattle.pg_selection.specs.Search.{SearchText, Search, Split, Fixed, search_of}
 use Rattle.std.specs.Fmt.{digits}
 use Rattle.pg_blocks.specs.Blocks.{BlockData}
-use Rattle.pg_lines.specs.Searched.{Searched}
-use Rattle.pg_lines.specs.Same.{same_text}
+use Rattle.pg_selection.specs.Searched.{Searched}
+use Rattle.pg_selection.specs.Same.{same_text}
 use Rattle.pg_seq.specs.Plan.{Opens, Announces, Ends}
 use Rattle.pg_seq.specs.History.{Event, Planned, Arrived, answer_after, handed_after, front_after}
 use Rattle.pg_seq.specs.declared.answers.Arrival.TheVariants.{Taken, Double, Stranger}

@@ -4,8 +4,8 @@ use Rattle.std.proofs.Common.{eqb, Option, Some, None, List, [], ◌∷◌, ◌+
 use Rattle.std.specs.List.{AllByRecursion, find}
 use Rattle.std.proofs.lemmas.Bool.{ne_eqb, cases_eq, and_left, and_right, and_parts, eqb-true}
 use Rattle.std.proofs.lemmas.List.{length_push}
-use Rattle.pg_lines.specs.Search.{Search}
-use Rattle.pg_lines.specs.Same.{same_text}
+use Rattle.pg_selection.specs.Search.{Search}
+use Rattle.pg_selection.specs.Same.{same_text}
 use Rattle.pg_blocks.specs.Blocks.{BlockData}
 use Rattle.pg_seq.specs.declared.answers.Arrival.{Arrival}
 use Rattle.pg_seq.specs.declared.answers.Arrival.TheVariants.{Taken, Double, Stranger}

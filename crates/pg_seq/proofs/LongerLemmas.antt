@@ -4,9 +4,9 @@ use Rattle.std.proofs.Common.{refl, sym, ap, ◌∙◌, subst, append_assoc}
 use Rattle.std.specs.List.{list_any}
 use Rattle.std.proofs.lemmas.Bool.{or_left, or_right, or_cases}
 use Rattle.std.proofs.lemmas.List.Folds.{list_any-append}
-use Rattle.pg_lines.specs.Search.{Search, terminator}
+use Rattle.pg_selection.specs.Search.{Search, terminator}
 use Rattle.pg_blocks.specs.Lines.{lines, AreWhole}
-use Rattle.pg_lines.specs.Selection.{selects}
+use Rattle.pg_selection.specs.Selection.{selects}
 use Rattle.pg_blocks.proofs.LineLemmas.{lines-append}
 use Rattle.pg_rows.specs.declared.format.Format.{Format}
 use Rattle.pg_base.specs.Entries.{Entry, Missed, Read, Ending, Running, Ended, Failed, Left}

@@ -5,12 +5,12 @@ use Rattle.std.proofs.Common.{sym, ap, ◌∙◌, subst, arith}
 use Rattle.std.specs.List.{AllByRecursion, list_any}
 use Rattle.std.proofs.lemmas.Bool.{lt-ltb, ne_eqb, or_right}
 use Rattle.std.proofs.lemmas.List.Folds.{list_any-append}
-use Rattle.pg_lines.specs.Search.{SearchText, Search, HasItsTrees, terminator}
+use Rattle.pg_selection.specs.Search.{SearchText, Search, HasItsTrees, terminator}
 use Rattle.pg_blocks.specs.Lines.{lines}
-use Rattle.pg_lines.specs.Selection.{selects}
-use Rattle.pg_lines.specs.Runs.{AreRuns, HasRuns}
-use Rattle.pg_lines.specs.declared.run.Run.{Run}
-use Rattle.pg_lines.proofs.RunLemmas.{lines_apart}
+use Rattle.pg_selection.specs.Selection.{selects}
+use Rattle.pg_selection.specs.Runs.{AreRuns, HasRuns}
+use Rattle.pg_selection.specs.declared.run.Run.{Run}
+use Rattle.pg_selection.proofs.RunLemmas.{lines_apart}
 use Rattle.pg_blocks.proofs.LineLemmas.{some_line}
 
 pub runs_of : (q : Search) (text : SearchText) (bytes : List ℕ) (runs : List Run) → HasItsTrees q → text ≡ q.text

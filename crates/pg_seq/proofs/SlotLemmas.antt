@@ -4,8 +4,8 @@ use Rattle.std.proofs.Common.{length, drop, map, get_or, refl, sym, ap, ◌∙�
 use Rattle.std.specs.Bool.{MatchBool}
 use Rattle.std.proofs.lemmas.Bool.{or_right}
 use Rattle.std.specs.List.{list_all, list_any, AllByRecursion, AllWithin, HoldsAt}
-use Rattle.pg_lines.specs.Search.{Search}
-use Rattle.pg_lines.specs.Searched.{Searched}
+use Rattle.pg_selection.specs.Search.{Search}
+use Rattle.pg_selection.specs.Searched.{Searched}
 use Rattle.pg_seq.specs.declared.slot.Slot.{Slot}
 use Rattle.pg_seq.specs.Slots.{has_result, slot_block, slot_selects, IsResultOf}
 

@@ -7,11 +7,11 @@ use Rattle.std.specs.List.{find, AllByRecursion, list_any, list_all}
 use Rattle.std.proofs.lemmas.Bool.{false≢true, cases_Bool, eqb-true, and_parts, or_right}
 use Rattle.std.proofs.lemmas.List.{append-nil, length-map, map-append, map_push}
 use Rattle.std.proofs.lemmas.List.Folds.{list_any-append}
-use Rattle.pg_lines.specs.Search.{Search, HasItsTrees, terminator}
+use Rattle.pg_selection.specs.Search.{Search, HasItsTrees, terminator}
 use Rattle.pg_blocks.specs.Lines.{lines}
-use Rattle.pg_lines.specs.Selection.{selects}
-use Rattle.pg_lines.specs.Same.{same_text, text_equal}
-use Rattle.pg_lines.specs.Searched.{Searched}
+use Rattle.pg_selection.specs.Selection.{selects}
+use Rattle.pg_selection.specs.Same.{same_text, text_equal}
+use Rattle.pg_selection.specs.Searched.{Searched}
 use Rattle.pg_blocks.specs.Blocks.{BlockData, joined}
 use Rattle.pg_blocks.proofs.LineLemmas.{lines-append}
 use Rattle.pg_seq.specs.declared.answers.Arrival.{Arrival}
@@ -123,9 +123,9 @@ module _ {A : Type 0} where
   abbrev pub all : {past : Past} (s : Assembler A) → IsAfter s past → List (Slot A)
   all s h = h.gone ++ s.buffer.slots.items
 
-  -- the query, the format and what is told of the plan are the same
+  -- the selector, the format and what is told of the plan are the same
   pub record IsAlike (s new : Assembler A) : Type 0 where
-    pub query : new.query ≡ s.query
+    pub selector : new.selector ≡ s.selector
     pub format : new.format ≡ s.format
     pub running : new.running ≡ s.running
     pub bad : new.bad ≡ s.bad
@@ -244,7 +244,7 @@ module _ {A : Type 0} where
       record {
         gone = h.gone;
         given_up = record { count = h.given_up.count ∙ sym k.handed; results = h.given_up.results };
-        query = h.query ∙ ap (λ q. q.value.text) (sym a.query);
+        query = h.query ∙ ap (λ s. s.value) (sym a.selector);
         trees = h.trees;
         format = h.format ∙ sym a.format;
         room = h.room;
@@ -281,10 +281,10 @@ module _ {A : Type 0} where
 
   -- the file has ended
   pub ended_stands : (s new : Assembler A) (past : Past) (failed : Bool) → is_open (plan past) ≡ true → IsAfter s past
-      → new.query ≡ s.query → new.format ≡ s.format → new.running ≡ false → new.bad ≡ (s.bad || failed)
+      → new.selector ≡ s.selector → new.format ≡ s.format → new.running ≡ false → new.bad ≡ (s.bad || failed)
       → IsIdle s new → new.waiting.items ≡ s.waiting.items → SameButRoom s.buffer new.buffer → new.failed ≡ s.failed
       → IsAfter new (planned past (Ends failed))
-  ended_stands s new past failed open' h query format running bad idle waiting k failed' =
+  ended_stands s new past failed open' h selector format running bad idle waiting k failed' =
       let f = (cursor_is past.query past.format h.room (plan past)
       (shape_of (terminator past.query) (plan past) h.lawful)).file open' in
       let same : all s h ≡ h.gone ++ new.buffer.slots.items = ap (λ xs. h.gone ++ xs) (sym k.slots) in
@@ -292,7 +292,7 @@ module _ {A : Type 0} where
       record {
         gone = h.gone;
         given_up = record { count = h.given_up.count ∙ sym k.handed; results = h.given_up.results };
-        query = h.query ∙ ap (λ q. q.value.text) (sym query);
+        query = h.query ∙ ap (λ s. s.value) (sym selector);
         trees = h.trees;
         format = h.format ∙ sym format;
         room = h.room;
@@ -312,16 +312,16 @@ module _ {A : Type 0} where
 
   -- a name was missed
   pub missed_stands : (s new : Assembler A) (past : Past) (name : List ℕ) → is_open (plan past) ≡ false → IsAfter s past
-      → new.query ≡ s.query → new.format ≡ s.format → new.running ≡ s.running → new.bad ≡ true → IsIdle s new
+      → new.selector ≡ s.selector → new.format ≡ s.format → new.running ≡ s.running → new.bad ≡ true → IsIdle s new
       → new.waiting.items ≡ s.waiting.items → SameButRoom s.buffer new.buffer → new.failed ≡ s.failed
       → IsAfter new (planned past (Misses name))
-  missed_stands s new past name closed h query format running bad idle waiting k failed' =
+  missed_stands s new past name closed h selector format running bad idle waiting k failed' =
       let same : all s h ≡ h.gone ++ new.buffer.slots.items = ap (λ xs. h.gone ++ xs) (sym k.slots) in
       let R : List (Slot A) → Type 0 = λ xs. AllByRecursion (IsResultOf past.query) xs in
       record {
         gone = h.gone;
         given_up = record { count = h.given_up.count ∙ sym k.handed; results = h.given_up.results };
-        query = h.query ∙ ap (λ q. q.value.text) (sym query);
+        query = h.query ∙ ap (λ s. s.value) (sym selector);
         trees = h.trees;
         format = h.format ∙ sym format;
         room = h.room;
@@ -368,18 +368,18 @@ module _ {A : Type 0} where
   )
 
   pub opened_stands : (s new : Assembler A) (past : Past) (name : List ℕ) → IsAfter s past
-      → MayFollow (terminator past.query) (plan past) (Opens name) → new.query ≡ s.query → new.format ≡ s.format
+      → MayFollow (terminator past.query) (plan past) (Opens name) → new.selector ≡ s.selector → new.format ≡ s.format
       → new.running ≡ true → new.bad ≡ s.bad → IsIdle s new → (opening : Opening A)
       → new.waiting.items ≡ s.waiting.items ++ opening ∷ []
       → opening.start ≡ s.buffer.handed + length s.buffer.slots.items → opening.prefix ≡ name
       → new.failed ≡ s.failed → OpensFile s.buffer new.buffer → IsAfter new (planned past (Opens name))
-  opened_stands s new past name h may query format running bad idle opening waiting start' prefix failed' o =
+  opened_stands s new past name h may selector format running bad idle opening waiting start' prefix failed' o =
       let same : all s h ≡ h.gone ++ new.buffer.slots.items = ap (λ xs. h.gone ++ xs) (sym o.slots) in
       let R : List (Slot A) → Type 0 = λ xs. AllByRecursion (IsResultOf past.query) xs in
       record {
         gone = h.gone;
         given_up = record { count = h.given_up.count ∙ sym o.handed; results = h.given_up.results };
-        query = h.query ∙ ap (λ q. q.value.text) (sym query);
+        query = h.query ∙ ap (λ s. s.value) (sym selector);
         trees = h.trees;
         format = h.format ∙ sym format;
         room = h.room;
@@ -422,7 +422,7 @@ module _ {A : Type 0} where
       record {
         gone = h.gone;
         given_up = record { count = h.given_up.count ∙ sym p.handed; results = h.given_up.results };
-        query = h.query ∙ ap (λ q. q.value.text) (sym a.query);
+        query = h.query ∙ ap (λ s. s.value) (sym a.selector);
         trees = h.trees;
         format = h.format ∙ sym a.format;
         room = h.room;
@@ -622,7 +622,7 @@ module _ {A : Type 0} where
       record {
         gone = h.gone;
         given_up = record { count = h.given_up.count ∙ sym p.handed; results = h.given_up.results };
-        query = h.query ∙ ap (λ q. q.value.text) (sym alike.query);
+        query = h.query ∙ ap (λ s. s.value) (sym alike.selector);
         trees = h.trees;
         format = h.format ∙ sym alike.format;
         room = h.room;
@@ -654,7 +654,7 @@ module _ {A : Type 0} where
       }
 
   -- nothing happened yet
-  pub new_stands : (s : Assembler A) (q : Search) (format : Format) → q.text ≡ (arc_value s.query).text
+  pub new_stands : (s : Assembler A) (q : Search) (format : Format) → q.text ≡ arc_value s.selector
       → HasItsTrees q → s.format ≡ format → HasRoom format → s.running ≡ false → s.bad ≡ false → IsUnused s.buffer
       → s.waiting.items ≡ [] → s.printing ≡ false → IsAtCursor s.printer q format at_start → s.failed ≡ false
       → IsAfter s (start q format)

@@ -1,9 +1,9 @@
 -- What the calls of a reorder buffer do to it.
 use Rattle.std.specs.Prelude.{◌≡◌, ℕ, ◌+◌, ◌≤◌, true, false, ◌||◌, Some, None, List, [], ◌∷◌, ◌++◌, length, drop}
 use Rattle.std.specs.List.{AllByRecursion}
-use Rattle.pg_lines.specs.Search.{Search, HasItsTrees}
+use Rattle.pg_selection.specs.Search.{Search, HasItsTrees}
 use Rattle.pg_blocks.specs.Blocks.{BlockData}
-use Rattle.pg_lines.specs.Searched.{Searched}
+use Rattle.pg_selection.specs.Searched.{Searched}
 use Rattle.pg_seq.specs.Slots.{slot_block, has_result, slot_selects, place_of, arrival_among, with_result}
 use Rattle.pg_seq.specs.Slots.{IsResultOf}
 use Rattle.pg_seq.specs.declared.answers.Arrival.{Arrival}

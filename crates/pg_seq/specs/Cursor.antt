@@ -1,6 +1,6 @@
 -- The output of a plan, step by step: where a sequencer stands in its output, and what one step adds.
 use Rattle.std.specs.Prelude.{ℕ, ◌||◌, List, [], ◌∷◌}
-use Rattle.pg_lines.specs.Search.{Search, terminator}
+use Rattle.pg_selection.specs.Search.{Search, terminator}
 use Rattle.pg_blocks.specs.Lines.{lines}
 use Rattle.pg_rows.specs.declared.format.Format.{Format}
 use Rattle.pg_rows.specs.Modes.{rows_in}

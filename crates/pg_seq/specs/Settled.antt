@@ -1,9 +1,9 @@
 -- What stays the same however much more of a file could be read (XCU grep, -l and -q; GNU grep, -m).
 use Rattle.std.specs.Prelude.{◌≡◌, ℕ, Bool, true, false, List, [], ◌∷◌, ◌++◌}
 use Rattle.std.specs.List.{list_any}
-use Rattle.pg_lines.specs.Search.{Search, terminator}
+use Rattle.pg_selection.specs.Search.{Search, terminator}
 use Rattle.pg_blocks.specs.Lines.{lines, AreWhole}
-use Rattle.pg_lines.specs.Selection.{selects}
+use Rattle.pg_selection.specs.Selection.{selects}
 use Rattle.pg_rows.specs.declared.format.Format.{Format}
 use Rattle.pg_base.specs.Entries.{Entry, Missed, Read, Ending, Running, Ended, Failed, Left, is_running, is_failed}
 use Rattle.pg_rows.specs.Output.{file_rows, output, status}

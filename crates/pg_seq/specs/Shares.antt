@@ -1,7 +1,7 @@
 -- What two searches of a part of the files each give together: their shares of one search (XCU grep, STDOUT and EXIT
 -- STATUS; GNU grep, -A, -B, -C).
 use Rattle.std.specs.Prelude.{ℕ, nat_eq, Bool, not, ◌&&◌, ◌||◌, if◌then◌else◌, List, ◌++◌}
-use Rattle.pg_lines.specs.Search.{Search, terminator}
+use Rattle.pg_selection.specs.Search.{Search, terminator}
 use Rattle.pg_rows.specs.declared.format.Format.{Format}
 use Rattle.pg_rows.specs.declared.format.Mode.{Mode}
 use Rattle.pg_rows.specs.Modes.{shows_rows, is_quiet}

@@ -4,11 +4,11 @@ use Rattle.std.specs.Prelude.{IfSome, List, [], ◌∷◌, length, get_or, if◌
 use Rattle.std.specs.List.{prefix_len, list_any}
 use Rattle.std.specs.Str.{bytes_eq}
 use Rattle.std.specs.Arc.{arc_value}
-use Rattle.pg_lines.specs.Search.{Search, HasItsTrees, terminator}
+use Rattle.pg_selection.specs.Search.{Search, HasItsTrees, terminator}
 use Rattle.pg_blocks.specs.Lines.{lines}
 use Rattle.pg_blocks.specs.Blocks.{BlockData}
-use Rattle.pg_lines.specs.Selection.{selects}
-use Rattle.pg_lines.specs.Searched.{Searched}
+use Rattle.pg_selection.specs.Selection.{selects}
+use Rattle.pg_selection.specs.Searched.{Searched}
 use Rattle.pg_seq.specs.History.{if_same}
 use Rattle.pg_seq.specs.declared.answers.Arrival.{Arrival}
 use Rattle.pg_seq.specs.declared.answers.Arrival.TheVariants.{Double, Stranger}

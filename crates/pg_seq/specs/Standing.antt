@@ -4,8 +4,8 @@ use Rattle.std.specs.Prelude.{Result, Ok, Err, MatchResult, IfOk, OnOk, OnErr, I
 use Rattle.std.specs.Prelude.{List, [], ◌∷◌, ◌++◌, map, length}
 use Rattle.std.specs.List.{AllByRecursion, list_any}
 use Rattle.std.specs.Arc.{arc_value}
-use Rattle.pg_lines.specs.Search.{SearchText, Pattern, AreTreesOf, search_of, terminator, HasItsTrees}
-use Rattle.pg_lines.specs.Searched.{Searched}
+use Rattle.pg_selection.specs.Search.{SearchText, Pattern, AreTreesOf, search_of, terminator, HasItsTrees}
+use Rattle.pg_selection.specs.Searched.{Searched}
 use Rattle.pg_rows.specs.declared.format.Format.{Format}
 use Rattle.pg_rows.specs.Enough.{is_enough}
 use Rattle.pg_rows.specs.Output.{HasRoom, is_bad, output}
@@ -52,7 +52,7 @@ pub record HasWritten {A : Type 0} (s : Assembler A) (past : Past) : Type 0 wher
 pub record IsAfter {A : Type 0} (s : Assembler A) (past : Past) : Type 0 where
   pub gone : List (Slot A)
   pub given_up : AreGone s.buffer gone
-  pub query : past.query.text ≡ (arc_value s.query).text
+  pub query : past.query.text ≡ arc_value s.selector
   pub trees : HasItsTrees past.query
   pub format : past.format ≡ s.format
   pub room : HasRoom past.format

@@ -9,8 +9,8 @@ use crate::opening::Opening;
 use crate::reorder_buffer::ReorderBuffer;
 use pg_base::{Sink, WriteError};
 use pg_blocks::Block;
-use pg_lines::{BlockResult, Query};
 use pg_rows::{Format, Mode, Prefix, Printer, Progress};
+use pg_selection::{BlockResult, Selector};
 use std::alloc::{AllocError, Allocator, Global};
 use std::collections::VecDeque;
 use std::sync::Arc;
@@ -36,7 +36,7 @@ fn exit_status(mode: Mode, bad: bool, selected: bool) -> u8
 /// does.
 pub(crate) struct Assembler<A: Allocator = Global> {
     alloc: A,
-    query: Arc<Query<A>, A>,
+    selector: Arc<Selector<A>, A>,
     format: Format,
     /// A file of the plan is open.
     running: bool,
@@ -56,7 +56,7 @@ impl<A: Allocator> Drop for Assembler<A> {
     fn drop(self) {
         let Assembler {
             alloc: _,
-            query: _,
+            selector: _,
             format: _,
             running: _,
             bad: _,
@@ -81,18 +81,18 @@ impl<A: Allocator> Assembler<A> {
     /// One to which nothing happened.
     pub(crate) fn new(
         alloc: A,
-        query: Arc<Query<A>, A>,
+        selector: Arc<Selector<A>, A>,
         format: Format,
     ) -> Result<Assembler<A>, AllocError>
     where
         A: Copy,
         requires { HasRoom format }
-        ensures { IfOk result (IsAtStart (arc_value query).text format) }
+        ensures { IfOk result (IsAtStart (arc_value selector) format) }
     {
-        let printer = Printer::new(alloc, &query, format)?;
+        let printer = Printer::new(alloc, &selector, format)?;
         Ok(Assembler {
             alloc,
-            query,
+            selector,
             format,
             running: false,
             bad: false,
@@ -177,9 +177,9 @@ impl<A: Allocator> Assembler<A> {
     fn arrival_of(&self, found: &BlockResult<A>) -> Arrival
         ensures { (past : Past) → IsAfter self.now past → result ≡ answer past found.now }
     {
-        let query: &Query<A> = &self.query;
-        let other: &Query<A> = found.query();
-        if query != other {
+        let selector: &Selector<A> = &self.selector;
+        let other: &Selector<A> = found.selector();
+        if selector != other {
             return Arrival::Stranger;
         }
         self.buffer.arrival_of(found.block())

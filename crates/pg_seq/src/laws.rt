@@ -1,9 +1,9 @@
 //! Laws of the definitions that contracts cite. They speak of all values, and a call does nothing.
 ghost use Rattle.std.specs.Prelude.{◌≡◌, ◌++◌, ℕ, List, false, true};
 ghost use Rattle.std.specs.List.{Contains, list_any};
-ghost use Rattle.pg_lines.specs.Search.{Search, terminator};
+ghost use Rattle.pg_selection.specs.Search.{Search, terminator};
 ghost use Rattle.pg_blocks.specs.Lines.{AreWhole, lines};
-ghost use Rattle.pg_lines.specs.Searched.{Searched};
+ghost use Rattle.pg_selection.specs.Searched.{Searched};
 ghost use Rattle.pg_rows.specs.declared.format.Format.{Format};
 ghost use Rattle.pg_rows.specs.Modes.{is_quiet};
 ghost use Rattle.pg_base.specs.Entries.{Entry};

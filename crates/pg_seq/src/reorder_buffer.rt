@@ -9,7 +9,7 @@ use crate::answers::Arrival;
 use crate::file_starts::FileStarts;
 use crate::slot::Slot;
 use pg_blocks::Block;
-use pg_lines::BlockResult;
+use pg_selection::BlockResult;
 use std::alloc::{AllocError, Allocator, Global};
 use std::collections::VecDeque;
 use std::sync::Arc;
@@ -64,7 +64,7 @@ fn place_in<A: Allocator>(
 }
 
 impl<A: Allocator> ReorderBuffer<A> {
-    ghost use Rattle.pg_lines.specs.Search.{Search, HasItsTrees};
+    ghost use Rattle.pg_selection.specs.Search.{Search, HasItsTrees};
     ghost use Rattle.pg_seq.specs.Slots.{IsResultOf, has_result, slot_selects, ready};
     ghost use Rattle.pg_seq.specs.Buffer.{IsUnused, SameButRoom, OpensFile, Pushes, IsArrival, Puts, HandsOut};
     ghost use Rattle.pg_seq.specs.Buffer.{HasResult};

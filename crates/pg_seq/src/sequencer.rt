@@ -6,8 +6,8 @@ use crate::answers::{Arrival, SinkFault};
 use crate::assembler::Assembler;
 use pg_base::Sink;
 use pg_blocks::Block;
-use pg_lines::{BlockResult, Query};
 use pg_rows::Format;
+use pg_selection::{BlockResult, Selector};
 use std::alloc::{AllocError, Allocator, Global};
 use std::marker::Model;
 use std::sync::Arc;
@@ -52,18 +52,18 @@ impl<A: Allocator> Sequencer<A> {
     /// The limit of the format isn't 0. A refused request for memory is the only error.
     pub fn new(
         alloc: A,
-        query: Arc<Query<A>, A>,
+        selector: Arc<Selector<A>, A>,
         format: Format,
     ) -> Result<Sequencer<A>, AllocError>
     where
         A: Copy,
         requires { HasRoom format }
-        ensures { IfOk result (IsAtStart (arc_value query).text format) }
+        ensures { IfOk result (IsAtStart (arc_value selector) format) }
     {
-        let compiled: &Query<A> = &query;
+        let selects: &Selector<A> = &selector;
         // Its contract says that the patterns have trees.
-        let _text = compiled.text();
-        let assembler = Assembler::new(alloc, query, format)?;
+        let _text = selects.text();
+        let assembler = Assembler::new(alloc, selector, format)?;
         Ok(Sequencer { assembler })
     }
 

@@ -4,7 +4,7 @@ ghost use Rattle.pg_seq.specs.Slots.{TellsSelected, slot_arrival};
 
 use crate::answers::Arrival;
 use pg_blocks::Block;
-use pg_lines::BlockResult;
+use pg_selection::BlockResult;
 use std::alloc::{Allocator, Global};
 use std::sync::Arc;
 

@@ -1,5 +1,5 @@
 //! What a search may spend on comparing strings.
-ghost use Rattle.std.specs.Prelude.{◌≡◌, ◌+◌, ◌*◌, ◌≤◌};
+ghost use Rattle.std.specs.Prelude.{◌+◌, ◌*◌, ◌≤◌};
 
 /// How much each byte that is passed adds to a budget.
 const RATE: usize = 8;

@@ -1,5 +1,5 @@
 //! Whether a string stands at a place.
-ghost use Rattle.std.specs.Prelude.{◌≡◌, ◌+◌, ◌≤◌, ◌↔◌, length, IsTrue};
+ghost use Rattle.std.specs.Prelude.{◌+◌, ◌≤◌, ◌↔◌, length, IsTrue};
 ghost use Rattle.memchr.specs.Find.{OccursAt};
 
 use crate::budget::Budget;

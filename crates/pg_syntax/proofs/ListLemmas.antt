@@ -6,7 +6,7 @@ use Rattle.std.specs.Prelude.{position}
 use Rattle.std.specs.Borrow.{Bor}
 use Rattle.std.proofs.lemmas.List.{take_rest, drop-drop, take_more, take-append-drop, map-append}
 use Rattle.pg_syntax.specs.PatternLists.{Patterns, split, patterns_in, patterns}
-use Rattle.pg_syntax.specs.Lines.{lines}
+use Rattle.pg_bytes.specs.Lines.{lines}
 use Rattle.pg_syntax.specs.Slices.{bytes_of, last_line}
 use Rattle.pg_pattern.specs.Patterns.{Pattern}
 use Rattle.pg_pattern.specs.Trees.{pattern}

@@ -7,7 +7,7 @@ use Rattle.std.proofs.lemmas.Bool.{false≢true}
 use Rattle.std.proofs.lemmas.Bool.Decides.{nat_tests}
 use Rattle.std.proofs.lemmas.List.Quantifiers.{position-Some}
 use Rattle.pg_syntax.specs.PatternLists.{split}
-use Rattle.pg_syntax.specs.Lines.{lines}
+use Rattle.pg_bytes.specs.Lines.{lines}
 use Rattle.pg_syntax.specs.Slices.{last_line}
 
 abbrev pub newline : ℕ → Bool

@@ -3,7 +3,6 @@ pub mod Intervals
 pub mod Grammar
 pub mod Places
 pub mod Results
-pub mod Lines
 pub mod PatternLists
 pub mod ListResults
 pub mod FaultTexts

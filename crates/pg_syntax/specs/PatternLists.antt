@@ -1,7 +1,7 @@
 -- Pattern lists as plain data, and their patterns (XCU grep, -e and -f).
 use Rattle.std.specs.Prelude.{ℕ, ◌==◌, if◌then◌else◌, List, [], ◌∷◌, ◌++◌}
 use Rattle.std.specs.List.{onto_first}
-use Rattle.pg_syntax.specs.Lines.{lines}
+use Rattle.pg_bytes.specs.Lines.{lines}
 
 -- a pattern list: a text that each newline splits, or a file whose lines are the patterns
 pub data Patterns : Type 0 where

@@ -1,5 +1,5 @@
 //! Brackets (XBD 9.3.5, 9.4.5), element by element.
-ghost use Rattle.std.specs.Prelude.{◌≡◌, ◌<◌, ◌≤◌, ◌+◌, ℕ, List, length, [], ◌∷◌, drop};
+ghost use Rattle.std.specs.Prelude.{◌≡◌, ◌<◌, ◌≤◌, ◌+◌, ℕ, List, length, ◌∷◌, drop};
 ghost use Rattle.std.specs.Prelude.{option_map, MatchResult, IfErr, Some, None};
 ghost use Rattle.pg_bytes.specs.ByteSets.{bytes};
 ghost use Rattle.pg_syntax.specs.Brackets.{negates, OpensBracket};

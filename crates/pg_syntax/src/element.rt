@@ -1,9 +1,9 @@
 //! The elements of a bracket (XBD 9.3.5, rules 4 to 7).
-ghost use Rattle.std.specs.Prelude.{◌≡◌, ◌<◌, ◌≤◌, ◌+◌, ◌-◌, ℕ, List, length, take};
+ghost use Rattle.std.specs.Prelude.{◌≡◌, ◌<◌, ◌≤◌, ◌+◌, ◌-◌, ℕ, List, length};
 ghost use Rattle.std.specs.Prelude.{drop, MatchOption, option_map, Some, None};
 ghost use Rattle.pg_bytes.specs.ByteSets.{bytes};
 ghost use Rattle.pg_syntax.specs.Brackets.{member, end_point, is_dash, only_byte};
-ghost use Rattle.pg_syntax.specs.BracketReading.{range_of, until, element_at, SingleAt, EnclosedAt};
+ghost use Rattle.pg_syntax.specs.BracketReading.{range_of, element_at, SingleAt, EnclosedAt};
 ghost use Rattle.pg_syntax.specs.BracketViews.{element};
 ghost use Rattle.pg_syntax.specs.BracketPlaces.{At, FaultPlace, FindsElement};
 ghost use Rattle.pg_syntax.specs.Places.{IsBadRange};

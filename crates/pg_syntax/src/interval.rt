@@ -1,5 +1,5 @@
 //! The bounds of intervals (XBD 9.3.6, 9.4.6).
-ghost use Rattle.std.specs.Prelude.{◌≡◌, ◌≤◌, ◌<◌, [], ◌∷◌, length, drop, MatchOption, Some, None};
+ghost use Rattle.std.specs.Prelude.{◌≤◌, ◌<◌, [], ◌∷◌, length, drop, Some, None};
 ghost use Rattle.pg_syntax.specs.Grammar.{unbrace};
 ghost use Rattle.pg_syntax.specs.Reads.{FindsNumber, FindsRest, FindsBounds};
 ghost use Rattle.pg_syntax.specs.IntervalReading.{number_at, strip, bounds};

@@ -3,10 +3,10 @@ ghost use Rattle.std.specs.Prelude.{◌≡◌, ◌++◌, [], ◌∷◌, ◌==◌
 ghost use Rattle.pg_pattern.specs.Trees.{pattern};
 ghost use Rattle.pg_syntax.specs.Memory.{patterns_of};
 ghost use Rattle.pg_syntax.specs.PatternLists.{patterns, patterns_in, split};
-ghost use Rattle.pg_syntax.specs.Lines.{lines};
+ghost use Rattle.pg_bytes.specs.Lines.{lines};
 ghost use Rattle.pg_syntax.specs.Slices.{bytes_of, last_line};
 ghost use Rattle.pg_syntax.specs.Results.{IsSpelled, IsFault};
-ghost use Rattle.pg_syntax.specs.ListResults.{AreSpelled, IsListFault, no_memory};
+ghost use Rattle.pg_syntax.specs.ListResults.{AreSpelled, IsListFault};
 
 use crate::fault::{FaultKind, ListFault, SyntaxFault};
 use crate::parser::{fixed, parse_bre, parse_ere};

@@ -1,5 +1,5 @@
 //! From the bytes of a text to its tokens.
-ghost use Rattle.std.specs.Prelude.{ℕ, List, ◌≡◌, ◌==◌, ◌+◌, ◌<◌, ◌≤◌, [], ◌∷◌, length, drop, MatchOption, Some, None};
+ghost use Rattle.std.specs.Prelude.{ℕ, List, ◌≡◌, ◌==◌, ◌+◌, ◌<◌, ◌≤◌, [], ◌∷◌, length, drop, Some, None};
 ghost use Rattle.std.specs.List.{list_any};
 ghost use Rattle.pg_bytes.specs.Sets.{one};
 ghost use Rattle.pg_pattern.specs.Patterns.{Set, folded};

@@ -6,8 +6,8 @@ use Rattle.std.proofs.lemmas.List.{length-append, length_push}
 use Rattle.std.proofs.lemmas.List.Concat.{flat_map-append}
 use Rattle.pg_blocks.specs.Lines.{lines}
 use Rattle.pg_blocks.specs.Blocks.{BlockData, joined, EndsWith}
-use Rattle.pg_lines.specs.Search.{terminator}
-use Rattle.pg_lines.specs.Searched.{Searched}
+use Rattle.pg_selection.specs.Search.{terminator}
+use Rattle.pg_selection.specs.Searched.{Searched}
 use Rattle.pg_seq.specs.Plan.{Opens, Announces, Ends, Misses, MayFollow, last_blocks}
 use Rattle.pg_seq.specs.History.{planned, arrived, plan}
 use Rattle.pg_seq.specs.Standing.{IsAfter}

@@ -1,6 +1,5 @@
 //! What the tests search for, and where.
 ghost use Rattle.std.specs.Prelude.{◌≡◌, ◌≤◌, IfOk, false, length};
-ghost use Rattle.std.specs.Arc.{arc_value};
 
 use pg_blocks::Block;
 use pg_lines::{BlockResult, Kind, PatternList, Query, QueryText, Scratch, search_block};
@@ -50,14 +49,11 @@ pub(crate) fn text_of<A: Allocator + Copy>(
 pub(crate) fn compile<A: Allocator + Copy>(
     alloc: A,
     text: QueryText<A>,
-) -> Result<Arc<Query<A>, A>, AllocError>
-    ensures { IfOk result (λ query. (arc_value query).text ≡ text) }
+) -> Result<Query<A>, AllocError>
+    ensures { IfOk result (λ query. query.text ≡ text) }
 {
     match Query::compile(alloc, text) {
-        Ok(query) => {
-            let query = Arc::new(alloc, query)?;
-            Ok(query)
-        }
+        Ok(query) => Ok(query),
         Err(_) => Err(AllocError),
     }
 }
@@ -66,8 +62,8 @@ pub(crate) fn compile<A: Allocator + Copy>(
 pub(crate) fn query_of<A: Allocator + Copy>(
     alloc: A,
     pattern: &[u8],
-) -> Result<Arc<Query<A>, A>, AllocError>
-    ensures { IfOk result (λ query. (arc_value query).text.zero ≡ false) }
+) -> Result<Query<A>, AllocError>
+    ensures { IfOk result (λ query. query.text.zero ≡ false) }
 {
     compile(alloc, text_of(alloc, Kind::Fixed, pattern)?)
 }
@@ -78,7 +74,7 @@ pub(crate) const SPARED: u64 = 5;
 /// What a search finds in a block of at most 100 bytes.
 pub(crate) fn search<A: Allocator + Copy>(
     alloc: A,
-    query: &Arc<Query<A>, A>,
+    query: &Query<A>,
     file: u32,
     number: u64,
     bytes: &[u8],
@@ -91,7 +87,6 @@ pub(crate) fn search<A: Allocator + Copy>(
         bytes: Vec::from_slice(alloc, bytes)?,
     };
     let block = Arc::new(alloc, block)?;
-    let searched: &Query<A> = query;
-    let mut scratch = Scratch::new(alloc, searched.machine())?;
+    let mut scratch = Scratch::new(alloc, query.machine())?;
     search_block(alloc, query, &mut scratch, block)
 }

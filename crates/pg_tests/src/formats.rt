@@ -1,6 +1,5 @@
 //! Every format, over results in any order, against what GNU grep writes.
 ghost use Rattle.std.specs.Prelude.{◌≡◌, ◌+◌, ◌<◌, ◌≤◌, false, true};
-ghost use Rattle.std.specs.Arc.{arc_value};
 ghost use Rattle.pg_rows.specs.Output.{is_below, HasRoom};
 ghost use Rattle.pg_tests.specs.Reading.{IsBetween, IsReading};
 
@@ -16,7 +15,6 @@ use pg_rows::{Format, Mode, Separator};
 use pg_seq::{Arrival, Sequencer};
 use std::alloc::Global;
 use std::process::Abort;
-use std::sync::Arc;
 
 /// What stands before a mark and what stands behind it. The mark has to be there.
 pub(crate) fn cut<'a>(rt: &impl Abort, text: &'a str, mark: &str) -> (&'a str, &'a str) {
@@ -121,8 +119,8 @@ fn asked_parts(option: u8) -> (bool, bool) {
 
 /// The query of letters and a text behind a colon: its kind, `o` for matched parts, `c` for lines in colors, `C` for
 /// parts in colors, and `v` for lines that aren't matched.
-fn asked_query(rt: &impl Abort, alloc: Global, field: &str) -> Arc<Query>
-    ensures { (arc_value result).text.zero ≡ false }
+fn asked_query(rt: &impl Abort, alloc: Global, field: &str) -> Query
+    ensures { result.text.zero ≡ false }
 {
     let (letters, pattern) = cut(rt, field, ":");
     let (kind, option) = kind_and_option(rt, letters);
@@ -136,7 +134,7 @@ fn asked_query(rt: &impl Abort, alloc: Global, field: &str) -> Arc<Query>
 /// A row of the table.
 struct Case {
     format: Format,
-    query: Arc<Query>,
+    query: Query,
     /// The least bytes of a block.
     size: u8,
     /// Of the order in which results arrive.
@@ -168,7 +166,7 @@ fn number(rt: &impl Abort, field: &str) -> u8 {
 
 fn case_of(rt: &impl Abort, alloc: Global, row: &str) -> Case
     ensures room { HasRoom result.format }
-    ensures zero { (arc_value result.query).text.zero ≡ false }
+    ensures zero { result.query.text.zero ≡ false }
 {
     let (letters, rest) = cut(rt, row, " ");
     let (asked, rest) = cut(rt, rest, " ");
@@ -328,13 +326,7 @@ impl Trial<'_> {
     }
 
     /// Whether the result of a block has this answer, and a drain succeeds.
-    fn takes(
-        &mut self,
-        rt: &impl Abort,
-        query: &Arc<Query>,
-        block: &Block,
-        arrival: Arrival,
-    ) -> bool {
+    fn takes(&mut self, rt: &impl Abort, query: &Query, block: &Block, arrival: Arrival) -> bool {
         let bytes = block.bytes.as_slice();
         assert!(rt; bytes.len() <= 100);
         let found = search(self.alloc, query, block.file, block.number, bytes);
@@ -344,7 +336,7 @@ impl Trial<'_> {
 
     /// Whether the results of blocks have their answers, and all drains succeed. Behind each third one come that of
     /// another query and the same once more.
-    fn takes_all(&mut self, rt: &impl Abort, other: &Arc<Query>, blocks: &[Block]) -> bool {
+    fn takes_all(&mut self, rt: &impl Abort, other: &Query, blocks: &[Block]) -> bool {
         let query = &self.case.query;
         let mut right = true;
         for (turn, block) in blocks.iter().enumerate() {
@@ -369,7 +361,7 @@ impl Trial<'_> {
 /// A case of which no file is planned.
 fn trial_of<'a>(rt: &impl Abort, alloc: Global, case: &'a Case) -> Trial<'a>
     requires room { HasRoom case.now.format }
-    requires zero { (arc_value case.now.query).text.zero ≡ false }
+    requires zero { case.now.query.text.zero ≡ false }
     ensures { IsBetween result.sequencer 0 }
 {
     Trial {
@@ -404,12 +396,12 @@ fn passes(
     rt: &impl Abort,
     alloc: Global,
     case: &Case,
-    other: &Arc<Query>,
+    other: &Query,
     size: u8,
     order: Order,
 ) -> bool
     requires room { HasRoom case.now.format }
-    requires zero { (arc_value case.now.query).text.zero ≡ false }
+    requires zero { case.now.query.text.zero ≡ false }
 {
     let mut trial = trial_of(rt, alloc, case);
     let mut blocks = plan_blocks(rt, alloc, &mut trial.sequencer, &case.files, size);
@@ -418,7 +410,7 @@ fn passes(
 }
 
 /// A case has its output and status in blocks of its size and of a line, in the order of its seed and the falling one.
-fn assert_case(rt: &impl Abort, alloc: Global, other: &Arc<Query>, row: &str) {
+fn assert_case(rt: &impl Abort, alloc: Global, other: &Query, row: &str) {
     let case = case_of(rt, alloc, row);
     let size = case.size;
     let seeded = Order::Seeded(case.seed);
@@ -429,7 +421,7 @@ fn assert_case(rt: &impl Abort, alloc: Global, other: &Arc<Query>, row: &str) {
 }
 
 /// Each case of a text has its output and status.
-fn assert_cases(rt: &impl Abort, alloc: Global, other: &Arc<Query>, rows: &str) {
+fn assert_cases(rt: &impl Abort, alloc: Global, other: &Query, rows: &str) {
     for row in rows.lines() {
         assert_case(rt, alloc, other, row);
     }
@@ -471,7 +463,7 @@ pub(crate) fn arrives_as(
 fn read_line(
     rt: &impl Abort,
     alloc: Global,
-    query: &Arc<Query>,
+    query: &Query,
     sequencer: &mut Sequencer,
     file: u32,
     number: u64,
@@ -492,7 +484,7 @@ fn read_line(
 fn read_on(
     rt: &impl Abort,
     alloc: Global,
-    query: &Arc<Query>,
+    query: &Query,
     sequencer: &mut Sequencer,
     file: u32,
     number: u64,
@@ -515,7 +507,7 @@ fn read_on(
 fn read_step(
     rt: &impl Abort,
     alloc: Global,
-    query: &Arc<Query>,
+    query: &Query,
     sequencer: &mut Sequencer,
     file: u32,
     number: u64,
@@ -535,7 +527,7 @@ fn read_step(
 fn assert_steps(
     rt: &impl Abort,
     alloc: Global,
-    query: &Arc<Query>,
+    query: &Query,
     sequencer: &mut Sequencer,
     steps: &str,
 )

@@ -1,6 +1,5 @@
 //! Six results in each of their orders, and results that come before their blocks are announced.
 ghost use Rattle.std.specs.Prelude.{◌≡◌, ◌+◌, ◌<◌, false};
-ghost use Rattle.std.specs.Arc.{arc_value};
 ghost use Rattle.pg_tests.specs.Reading.{IsReading};
 
 use crate::fixtures::{PLAIN, query_of};
@@ -13,7 +12,6 @@ use pg_rows::{Format, Mode};
 use pg_seq::{Arrival, Sequencer};
 use std::alloc::{AllocError, Global};
 use std::process::Abort;
-use std::sync::Arc;
 
 /// How many orders six results have.
 const ORDERS: usize = 720;
@@ -69,7 +67,7 @@ fn is_answered(
     rt: &impl Abort,
     alloc: Global,
     sequencer: &mut Sequencer,
-    query: &Arc<Query>,
+    query: &Query,
     digit: u8,
     arrival: Arrival,
 ) -> bool {
@@ -83,8 +81,8 @@ fn is_taken_once(
     rt: &impl Abort,
     alloc: Global,
     sequencer: &mut Sequencer,
-    query: &Arc<Query>,
-    other: &Arc<Query>,
+    query: &Query,
+    other: &Query,
     digit: u8,
 ) -> bool {
     is_answered(rt, alloc, sequencer, other, digit, Arrival::Stranger)
@@ -117,8 +115,8 @@ fn take_in(
     rt: &impl Abort,
     alloc: Global,
     sequencer: &mut Sequencer,
-    query: &Arc<Query>,
-    other: &Arc<Query>,
+    query: &Query,
+    other: &Query,
     order: &[u8],
 ) -> bool {
     let mut sink = MemSink::new(alloc, ROWS.len()).expect(rt, "memory");
@@ -132,14 +130,8 @@ fn take_in(
 }
 
 /// Whether that is so of an order, and a result is a double where its block's rows were written.
-fn arrive_in(
-    rt: &impl Abort,
-    alloc: Global,
-    query: &Arc<Query>,
-    other: &Arc<Query>,
-    order: &[u8],
-) -> bool
-    requires zero { (arc_value query.now).text.zero ≡ false }
+fn arrive_in(rt: &impl Abort, alloc: Global, query: &Query, other: &Query, order: &[u8]) -> bool
+    requires zero { query.now.text.zero ≡ false }
 {
     let planned = plan_lines(alloc, query, NUMBERED, DIGITS);
     let (mut sequencer, _) = planned.expect(rt, "memory");
@@ -150,8 +142,8 @@ fn arrive_in(
 }
 
 /// Results arrive rightly in each order.
-fn assert_orders(rt: &impl Abort, alloc: Global, query: &Arc<Query>, other: &Arc<Query>)
-    requires zero { (arc_value query.now).text.zero ≡ false }
+fn assert_orders(rt: &impl Abort, alloc: Global, query: &Query, other: &Query)
+    requires zero { query.now.text.zero ≡ false }
 {
     for number in 0..ORDERS {
         let right = arrive_in(rt, alloc, query, other, &order_of(number));
@@ -171,7 +163,7 @@ fn six_results_arrive_in_each_order(rt: HostRuntime) {
 fn announce_late(
     rt: &impl Abort,
     alloc: Global,
-    query: &Arc<Query>,
+    query: &Query,
     sequencer: &mut Sequencer,
     number: u64,
     letter: u8,

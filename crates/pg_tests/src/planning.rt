@@ -1,6 +1,5 @@
 //! Files that a test plans, block by block.
 ghost use Rattle.std.specs.Prelude.{◌≡◌, ℕ, ◌+◌, ◌<◌, ◌≤◌, IsTrue, IfOk, OnOk, false};
-ghost use Rattle.std.specs.Arc.{arc_value};
 ghost use Rattle.pg_rows.specs.Output.{HasRoom};
 ghost use Rattle.pg_tests.specs.Reading.{IsBlock, IsBetween, IsReading};
 
@@ -15,16 +14,16 @@ use std::sync::Arc;
 /// A sequencer without a file.
 pub(crate) fn new_sequencer<A: Allocator + Copy>(
     alloc: A,
-    query: &Arc<Query<A>, A>,
+    query: &Query<A>,
     format: Format,
 ) -> Result<Sequencer<A>, AllocError>
     requires room { HasRoom format }
-    requires zero { (arc_value query.now).text.zero ≡ false }
+    requires zero { query.now.text.zero ≡ false }
     ensures { IfOk result (λ sequencer. IsBetween sequencer 0) }
 {
-    let searched: &Query<A> = query;
-    let _compiled = searched.text();
-    let sequencer = Sequencer::new(alloc, Arc::try_clone(query)?, format)?;
+    // Its contract says that the patterns have trees.
+    let _text = query.text();
+    let sequencer = Sequencer::new(alloc, Arc::try_clone(query.selector())?, format)?;
     Ok(sequencer)
 }
 

@@ -1,6 +1,5 @@
 //! Results that arrive in any order, sinks that fail, and requests for memory that are refused.
 ghost use Rattle.std.specs.Prelude.{◌≡◌, ◌+◌, ◌<◌, ◌≤◌, length, OnOk, false};
-ghost use Rattle.std.specs.Arc.{arc_value};
 ghost use Rattle.pg_rows.specs.Output.{HasRoom};
 ghost use Rattle.pg_tests.specs.Reading.{IsReading};
 
@@ -16,7 +15,6 @@ use pg_seq::{Arrival, Sequencer, SinkFault};
 use refusing::Refusing;
 use std::alloc::{AllocError, Allocator, Global};
 use std::process::Abort;
-use std::sync::Arc;
 
 /// All that is written, where the lines are selected.
 const OUTPUT: &[u8] = b"xa\nxb\nxc\n";
@@ -68,12 +66,12 @@ fn plan_letters<A: Allocator + Copy>(
 /// The query's lines end with newlines, and there are at most 100 letters.
 pub(crate) fn plan_lines<A: Allocator + Copy>(
     alloc: A,
-    query: &Arc<Query<A>, A>,
+    query: &Query<A>,
     format: Format,
     letters: &[u8],
 ) -> Result<(Sequencer<A>, bool), AllocError>
     requires room { HasRoom format }
-    requires zero { (arc_value query.now).text.zero ≡ false }
+    requires zero { query.now.text.zero ≡ false }
     requires few { length letters.now ≤ 100 }
 {
     let mut sequencer = new_sequencer(alloc, query, format)?;
@@ -85,7 +83,7 @@ pub(crate) fn plan_lines<A: Allocator + Copy>(
 /// What a search finds in a block that is a line of `x` and a letter.
 pub(crate) fn search_line<A: Allocator + Copy>(
     alloc: A,
-    query: &Arc<Query<A>, A>,
+    query: &Query<A>,
     file: u32,
     number: u64,
     letter: u8,
@@ -96,7 +94,7 @@ pub(crate) fn search_line<A: Allocator + Copy>(
 /// Whether the results of the three blocks `xa`, `xb` and `xc` of a file are taken, the last one first.
 fn takes_all<A: Allocator + Copy>(
     alloc: A,
-    query: &Arc<Query<A>, A>,
+    query: &Query<A>,
     sequencer: &mut Sequencer<A>,
 ) -> Result<bool, AllocError> {
     let mut right = true;
@@ -250,12 +248,8 @@ fn is_drained_for_free<A: Allocator + Copy>(
 }
 
 /// A sequencer with a window, of a file with the blocks `xa` and `xb`, which has not ended.
-fn with_window<A: Allocator + Copy>(
-    rt: &impl Abort,
-    alloc: A,
-    query: &Arc<Query<A>, A>,
-) -> Sequencer<A>
-    requires { (arc_value query.now).text.zero ≡ false }
+fn with_window<A: Allocator + Copy>(rt: &impl Abort, alloc: A, query: &Query<A>) -> Sequencer<A>
+    requires { query.now.text.zero ≡ false }
     ensures { IsReading result 0 2 }
 {
     let format = Format {

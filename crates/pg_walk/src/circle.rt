@@ -1,5 +1,5 @@
 //! Links that lead back to a directory from within.
-ghost use Rattle.std.specs.Prelude.{◌≡◌, Bool, Some, IfOk};
+ghost use Rattle.std.specs.Prelude.{◌≡◌, Some, IfOk};
 ghost use Rattle.std.specs.List.{list_any};
 ghost use Rattle.pg_walk.specs.Circles.{are_one};
 ghost use Rattle.pg_walk.specs.Paths.{above};

@@ -1,8 +1,8 @@
 //! What `clap` found, by the names of options.
-ghost use Rattle.std.specs.Prelude.{◌≡◌, ◌≤◌, ◌<◌, ℕ, List, None, Option, [], codes, map, option_and_then, option_map};
-ghost use Rattle.std.specs.Prelude.{true, unwrap_or, IfSome};
+ghost use Rattle.std.specs.Prelude.{◌≡◌, ◌≤◌, ◌<◌, List, None, Option, codes, map, option_and_then, option_map};
+ghost use Rattle.std.specs.Prelude.{true, unwrap_or};
 ghost use Rattle.std.specs.Str.{str_eq_ignore_ascii_case};
-ghost use Rattle.clap.specs.Words.{found_of, matched_of, raw_values};
+ghost use Rattle.clap.specs.Words.{found_of};
 ghost use Rattle.pg_rows.specs.Separator.{separator_for};
 ghost use Rattle.pg_words.specs.Asks.{coloring_by, coloring_in, device_action, directories_in, directory_action};
 ghost use Rattle.pg_words.specs.Asks.{has_long_separator, has_other_action, has_other_coloring};

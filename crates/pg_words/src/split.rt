@@ -1,5 +1,5 @@
 //! Words of a command line, joined so that the value of an option stands in the option's word.
-ghost use Rattle.std.specs.Prelude.{◌≡◌, ◌++◌, ◌∷◌, ◌≤◌, ◌<◌, ◌-◌, ◌==◌, ◌&&◌, not, true, IfOk, map, length, List, ℕ};
+ghost use Rattle.std.specs.Prelude.{◌≡◌, ◌++◌, ◌∷◌, ◌<◌, ◌-◌, ◌==◌, true, IfOk, map, List, ℕ};
 ghost use Rattle.std.specs.Prelude.{◌+◌, false, slice_index, option_map, OnOk, []};
 ghost use Rattle.std.specs.List.{position_or_len};
 ghost use Rattle.std.specs.String.{string_bytes};
@@ -8,7 +8,7 @@ ghost use Rattle.pg_words.specs.Joined.{asked, behind_text, complete, joined_fro
 ghost use Rattle.pg_words.specs.Joined.{letter_takes_value, value_cut};
 ghost use Rattle.pg_words.specs.Joined.{waits, Free};
 ghost use Rattle.pg_words.specs.Places.{place_of};
-ghost use Rattle.pg_words.specs.Line.{by_letter, by_name, is_mark, table};
+ghost use Rattle.pg_words.specs.Line.{is_mark, table};
 ghost use Rattle.pg_words.specs.Spelled.{uses_in};
 
 use crate::command::{letter_has_value, name_has_value};

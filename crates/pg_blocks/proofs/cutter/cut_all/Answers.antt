@@ -1,4 +1,3 @@
-use Rattle.std.proofs.lemmas.Result.{IfOk-from_err}
 use Rattle.std.proofs.Common.{◌≡◌, ◌∙◌, ◌+◌, ◌-◌, ◌++◌, ◌∷◌, [], sym, ap, arith, refl, List, ℕ, take, drop, length}
 use Rattle.std.proofs.Common.{length-drop, subst}
 use Rattle.std.proofs.lemmas.List.{take_rest, length_push}
@@ -48,43 +47,3 @@ returns-clause-cut g c =
       finished = c.loop-len.invariant.finished;
       unfinished = subst P (take_rest c.args.bytes.now c.loop-len.at) c.in_default.ensures.none;
     }
-
-pub returns-in_err-block-clause-within : goal.returns-in_err-block-clause-within
-returns-in_err-block-clause-within g c = IfOk-from_err c.from_residual.result _ c.from_residual.ensures.0
-
-pub returns-in_err-block-clause-few : goal.returns-in_err-block-clause-few
-returns-in_err-block-clause-few g c = IfOk-from_err c.from_residual.result _ c.from_residual.ensures.0
-
-pub returns-in_err-block-clause-cut : goal.returns-in_err-block-clause-cut
-returns-in_err-block-clause-cut g c = IfOk-from_err c.from_residual.result _ c.from_residual.ensures.0
-
-pub returns-in_err-block-clause-numbered : goal.returns-in_err-block-clause-numbered
-returns-in_err-block-clause-numbered g c = IfOk-from_err c.from_residual.result _ c.from_residual.ensures.0
-
-pub returns-in_err-push_back-clause-within : goal.returns-in_err-push_back-clause-within
-returns-in_err-push_back-clause-within g c =
-    IfOk-from_err c.from_residual-in_err-push_back.result _ c.from_residual-in_err-push_back.ensures.0
-
-pub returns-in_err-push_back-clause-few : goal.returns-in_err-push_back-clause-few
-returns-in_err-push_back-clause-few g c =
-    IfOk-from_err c.from_residual-in_err-push_back.result _ c.from_residual-in_err-push_back.ensures.0
-
-pub returns-in_err-push_back-clause-cut : goal.returns-in_err-push_back-clause-cut
-returns-in_err-push_back-clause-cut g c =
-    IfOk-from_err c.from_residual-in_err-push_back.result _ c.from_residual-in_err-push_back.ensures.0
-
-pub returns-in_err-push_back-clause-numbered : goal.returns-in_err-push_back-clause-numbered
-returns-in_err-push_back-clause-numbered g c =
-    IfOk-from_err c.from_residual-in_err-push_back.result _ c.from_residual-in_err-push_back.ensures.0
-
-pub first_cut-requires-clause-size : goal.first_cut-requires-clause-size
-first_cut-requires-clause-size g c = c.requires.size
-
-pub returns-clause-within : goal.returns-clause-within
-returns-clause-within g c = c.loop-len.invariant.within
-
-pub returns-clause-few : goal.returns-clause-few
-returns-clause-few g c = c.loop-len.invariant.few
-
-pub returns-clause-numbered : goal.returns-clause-numbered
-returns-clause-numbered g c = c.loop-len.invariant.numbered

@@ -29,33 +29,6 @@ returns-in-None-clause-ok g c =
     subst R (sym (take-add filled count all))
     (cuts_none k.end k.size k.file c.args.number rest piece ready (subst Q back (subst P front c.in-None.ensures.none)))
 
-pub first_cut-requires-clause-size : goal.first_cut-requires-clause-size
-first_cut-requires-clause-size g c = c.requires.size.0
-
-pub cut_open-requires-clause-size : goal.cut_open-requires-clause-size
-cut_open-requires-clause-size g c = c.requires.size
-
-pub cut_open-requires-clause-number : goal.cut_open-requires-clause-number
-cut_open-requires-clause-number g c = c.requires.number
-
-pub cut_open-requires-clause-within : goal.cut_open-requires-clause-within
-cut_open-requires-clause-within g c = c.requires.within
-
-pub returns-in-None-clause-within : goal.returns-in-None-clause-within
-returns-in-None-clause-within g c = c.requires.within
-
-pub returns-in-Some-clause-ok : goal.returns-in-Some-clause-ok
-returns-in-Some-clause-ok g c = c.cut_open.ensures.ok
-
-pub returns-in-Some-clause-within : goal.returns-in-Some-clause-within
-returns-in-Some-clause-within g c = c.cut_open.ensures.within
-
-pub returns-in-Some-clause-few : goal.returns-in-Some-clause-few
-returns-in-Some-clause-few g c = c.cut_open.ensures.few
-
-pub returns-in-Some-clause-err : goal.returns-in-Some-clause-err
-returns-in-Some-clause-err g c = c.cut_open.ensures.err
-
 pub cut_open-requires-clause-finished : goal.cut_open-requires-clause-finished
 cut_open-requires-clause-finished g c =
     let k = c.args.cutting in

@@ -1,5 +1,4 @@
 use Rattle.pg_blocks.proofs.RoomLemmas.{on_err}
-use Rattle.std.proofs.lemmas.Result.{IfOk-from_err}
 use Rattle.std.proofs.Common.{◌≡◌, ◌+◌, ◌-◌, ◌++◌, ◌∷◌, [], ℕ, List, Vec, length, take, drop, sym, ap}
 use Rattle.std.proofs.Common.{◌∙◌, refl}
 use Rattle.std.proofs.Common.{subst}
@@ -46,42 +45,6 @@ returns-clause-ok g c =
     subst N (sym count)
     (cuts_first k.end k.size k.file number len at rest piece b.bytes rest' blocks ready ready' c.requires.finished cuts
     c.in_ok-blocks.ensures.numbered first left appended)
-
-pub returns-in_err-blocks-clause-ok : goal.returns-in_err-blocks-clause-ok
-returns-in_err-blocks-clause-ok g c = IfOk-from_err c.from_residual.result _ c.from_residual.ensures.0
-
-pub returns-in_err-blocks-clause-within : goal.returns-in_err-blocks-clause-within
-returns-in_err-blocks-clause-within g c = IfOk-from_err c.from_residual.result _ c.from_residual.ensures.0
-
-pub returns-in_err-blocks-clause-few : goal.returns-in_err-blocks-clause-few
-returns-in_err-blocks-clause-few g c = IfOk-from_err c.from_residual.result _ c.from_residual.ensures.0
-
-pub returns-in_err-reserve-clause-ok : goal.returns-in_err-reserve-clause-ok
-returns-in_err-reserve-clause-ok g c =
-    IfOk-from_err c.from_residual-in_err-reserve.result _ c.from_residual-in_err-reserve.ensures.0
-
-pub returns-in_err-reserve-clause-within : goal.returns-in_err-reserve-clause-within
-returns-in_err-reserve-clause-within g c =
-    IfOk-from_err c.from_residual-in_err-reserve.result _ c.from_residual-in_err-reserve.ensures.0
-
-pub returns-in_err-reserve-clause-few : goal.returns-in_err-reserve-clause-few
-returns-in_err-reserve-clause-few g c =
-    IfOk-from_err c.from_residual-in_err-reserve.result _ c.from_residual-in_err-reserve.ensures.0
-
-pub returns-in_err-left-clause-ok : goal.returns-in_err-left-clause-ok
-returns-in_err-left-clause-ok g c =
-    IfOk-from_err c.from_residual-in_err-left.result _ c.from_residual-in_err-left.ensures.0
-
-pub returns-in_err-left-clause-within : goal.returns-in_err-left-clause-within
-returns-in_err-left-clause-within g c =
-    IfOk-from_err c.from_residual-in_err-left.result _ c.from_residual-in_err-left.ensures.0
-
-pub returns-in_err-left-clause-few : goal.returns-in_err-left-clause-few
-returns-in_err-left-clause-few g c =
-    IfOk-from_err c.from_residual-in_err-left.result _ c.from_residual-in_err-left.ensures.0
-
-pub cut_all-requires-clause-size : goal.cut_all-requires-clause-size
-cut_all-requires-clause-size g c = c.requires.size.0
 
 pub returns-in_err-blocks-clause-err : goal.returns-in_err-blocks-clause-err
 returns-in_err-blocks-clause-err g c = on_err _ c.from_residual.result (refl, refl)

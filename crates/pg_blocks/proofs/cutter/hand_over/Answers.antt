@@ -2,9 +2,6 @@ use Rattle.std.proofs.Common.{◌∙◌, ◌++◌, ◌∷◌, [], ℕ, List, Vec
 use Rattle.pg_blocks.specs.Blocks.{BlockData}
 use Rattle.pg_blocks.proofs.cutter.hand_over.Goals as goal
 
-pub returns-clause-left : goal.returns-clause-left
-returns-clause-left g c = c.replace.ensures.after
-
 pub returns-clause-ready : goal.returns-clause-ready
 returns-clause-ready g c =
     let ready = c.args.ready.now.items in

@@ -14,12 +14,3 @@ pub returns-in-None-clause-value : goal.returns-in-None-clause-value
 returns-in-None-clause-value c =
     chosen _ _ _ (short_piece c.args.end c.args.longest c.args.line c.args.piece.now (omega arith))
     (sym (open_alone c.args.end c.args.line c.args.piece.now c.in-None.ensures))
-
-pub line_by_byte-requires : goal.line_by_byte-requires
-line_by_byte-requires c = c.requires
-
-pub returns-then-piece-longest-clause-value : goal.returns-then-piece-longest-clause-value
-returns-then-piece-longest-clause-value c = c.line_by_byte.ensures.value
-
-pub returns-then-piece-longest-clause-fits : goal.returns-then-piece-longest-clause-fits
-returns-then-piece-longest-clause-fits c = c.line_by_byte.ensures.fits

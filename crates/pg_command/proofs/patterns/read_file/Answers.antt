@@ -2,7 +2,6 @@ use Rattle.std.proofs.Common.{◌∙◌, ◌∷◌, ap, inr, refl, subst, sym}
 use Rattle.pg_base.specs.Entries.{Left}
 use Rattle.pg_files.specs.Given.{File}
 use Rattle.pg_command.specs.Reading.{IsReadBy}
-use Rattle.std.proofs.lemmas.Result.{IfOk-from_err}
 use Rattle.pg_command.proofs.patterns.read_file.Goals as goal
 
 pub returns-in-Ok-2-clause-read : goal.returns-in-Ok-2-clause-read
@@ -28,6 +27,3 @@ returns-clause-fault g c =
             (c.in-Ok.ensures ∙ ap (λ bytes. File path bytes Left ∷ past) (sym c.new-bytes.ensures.items))),
       ),
     )
-
-pub returns-in_err-read_to_end-clause-read : goal.returns-in_err-read_to_end-clause-read
-returns-in_err-read_to_end-clause-read g c = IfOk-from_err c.from_residual.result _ c.from_residual.ensures.0

@@ -8,7 +8,6 @@ use Rattle.pg_command.specs.declared.fault.Fault.{Fault}
 use Rattle.pg_command.specs.declared.fault.Fault.TheVariants.{OutOfMemory}
 use Rattle.pg_command.proofs.GlobFileLemmas.{all_read, no_path, one_path, stops_there}
 use Rattle.pg_command.proofs.ReadingLemmas.{if_err, read_next}
-use Rattle.std.proofs.lemmas.Result.{IfOk-from_err}
 use Rattle.pg_command.proofs.patterns.read_globs.Goals as goal
 
 pub returns-in_err-bytes-clause-fault : goal.returns-in_err-bytes-clause-fault
@@ -73,10 +72,3 @@ returns-clause-read g c =
     let read = c.loop-filter.invariant in
     all_read c.args.filters.now c.loop-filter.filter-index read.0 (contents_of c.loop-filter.contents.items)
     (g.S.Store.past c.args.store.now) (g.S.Store.past c.loop-filter.store) c.loop-filter-test.false read.1 read.2
-
-pub returns-in_err-bytes-clause-read : goal.returns-in_err-bytes-clause-read
-returns-in_err-bytes-clause-read g c = IfOk-from_err c.from_residual.result _ c.from_residual.ensures.0
-
-pub returns-in_err-push-clause-read : goal.returns-in_err-push-clause-read
-returns-in_err-push-clause-read g c =
-    IfOk-from_err c.from_residual-in_err-push.result _ c.from_residual-in_err-push.ensures.0

@@ -3,12 +3,11 @@ use Rattle.pg_base.specs.Entries.{Ended}
 use Rattle.pg_syntax.specs.Memory.{patterns_of}
 use Rattle.pg_syntax.specs.Slices.{bytes_of}
 use Rattle.pg_syntax.proofs.ListLemmas.{map-push}
-use Rattle.pg_lines.specs.Search.{ByLine}
+use Rattle.pg_selection.specs.Search.{ByLine}
 use Rattle.pg_command.specs.Reading.{FailsToReadAll}
 use Rattle.pg_command.specs.declared.fault.Fault.{Fault}
 use Rattle.pg_command.specs.declared.fault.Fault.TheVariants.{OutOfMemory}
 use Rattle.pg_command.proofs.ReadingLemmas.{if_err, read_more, stops_behind}
-use Rattle.std.proofs.lemmas.Result.{IfOk-from_err}
 use Rattle.pg_command.proofs.patterns.read_patterns.Goals as goal
 
 pub returns-in_err-bytes-clause-fault : goal.returns-in_err-bytes-clause-fault
@@ -55,10 +54,3 @@ loop-path-preserved g c =
     ∙ (ap (λ xs. xs ++ ByLine content ∷ []) read.1 ∙ sym (map-push ByLine read.0 content))) in
     let whole = c.in_ok-bytes.ensures.read in
     (read.0 ++ content ∷ [], same, read_more paths i _ read.0 content past mid past' c.loop-path-test.true read.2 whole)
-
-pub returns-in_err-bytes-clause-read : goal.returns-in_err-bytes-clause-read
-returns-in_err-bytes-clause-read g c = IfOk-from_err c.from_residual.result _ c.from_residual.ensures.0
-
-pub returns-in_err-push-clause-read : goal.returns-in_err-push-clause-read
-returns-in_err-push-clause-read g c =
-    IfOk-from_err c.from_residual-in_err-push.result _ c.from_residual-in_err-push.ensures.0

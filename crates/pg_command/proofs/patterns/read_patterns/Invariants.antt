@@ -1,7 +1,7 @@
 use Rattle.std.proofs.Common.{◌≡◌, ℕ, List, map, take}
 use Rattle.pg_syntax.specs.Memory.{patterns_of}
 use Rattle.pg_syntax.specs.Slices.{bytes_of}
-use Rattle.pg_lines.specs.Search.{ByLine}
+use Rattle.pg_selection.specs.Search.{ByLine}
 use Rattle.pg_command.specs.Reading.{HasRead}
 use Rattle.pg_command.proofs.patterns.read_patterns.Given as goal
 

@@ -1,7 +1,7 @@
 use Rattle.std.proofs.Common.{◌≡◌, map, take}
 use Rattle.pg_syntax.specs.Memory.{patterns_of}
 use Rattle.pg_syntax.specs.Slices.{bytes_of}
-use Rattle.pg_lines.specs.Search.{Split}
+use Rattle.pg_selection.specs.Search.{Split}
 use Rattle.pg_command.proofs.query.text_lists.Given as goal
 
 abbrev pub invariant-loop-text : goal.invariant-loop-text

@@ -13,7 +13,6 @@ use Rattle.pg_command.specs.declared.fault.Fault.{Fault}
 use Rattle.pg_command.proofs.ReadingLemmas.{if_err}
 use Rattle.pg_command.proofs.StatusLemmas.{finishes_small}
 use Rattle.pg_command.proofs.WorkLemmas.{breaks_so, finishes_so, first_sought, work_of}
-use Rattle.std.proofs.lemmas.Result.{IfOk-from_err}
 use Rattle.pg_command.proofs.search.search.Goals as goal
 
 pub returns-in_err-run-clause-fault : goal.returns-in_err-run-clause-fault
@@ -114,44 +113,6 @@ returns-clause-success g c =
 
 pub returns-clause-small : goal.returns-clause-small
 returns-clause-small g c = finishes_small c.in_ok-run.ensures.ok.2
-
-pub returns-in_err-lists-clause-success : goal.returns-in_err-lists-clause-success
-returns-in_err-lists-clause-success g c = IfOk-from_err c.from_residual.result _ c.from_residual.ensures.0
-
-pub returns-in_err-lists-clause-small : goal.returns-in_err-lists-clause-small
-returns-in_err-lists-clause-small g c = IfOk-from_err c.from_residual.result _ c.from_residual.ensures.0
-
-pub returns-in_err-text-clause-success : goal.returns-in_err-text-clause-success
-returns-in_err-text-clause-success g c =
-    IfOk-from_err c.from_residual-in_err-text.result _ c.from_residual-in_err-text.ensures.0
-
-pub returns-in_err-text-clause-small : goal.returns-in_err-text-clause-small
-returns-in_err-text-clause-small g c =
-    IfOk-from_err c.from_residual-in_err-text.result _ c.from_residual-in_err-text.ensures.0
-
-pub returns-in_err-setup-clause-success : goal.returns-in_err-setup-clause-success
-returns-in_err-setup-clause-success g c =
-    IfOk-from_err c.from_residual-in_err-setup.result _ c.from_residual-in_err-setup.ensures.0
-
-pub returns-in_err-setup-clause-small : goal.returns-in_err-setup-clause-small
-returns-in_err-setup-clause-small g c =
-    IfOk-from_err c.from_residual-in_err-setup.result _ c.from_residual-in_err-setup.ensures.0
-
-pub returns-in_err-run-clause-success : goal.returns-in_err-run-clause-success
-returns-in_err-run-clause-success g c =
-    IfOk-from_err c.from_residual-in_err-run.result _ c.from_residual-in_err-run.ensures.0
-
-pub returns-in_err-run-clause-small : goal.returns-in_err-run-clause-small
-returns-in_err-run-clause-small g c =
-    IfOk-from_err c.from_residual-in_err-run.result _ c.from_residual-in_err-run.ensures.0
-
-pub returns-in_err-globs-clause-success : goal.returns-in_err-globs-clause-success
-returns-in_err-globs-clause-success g c =
-    IfOk-from_err c.from_residual-in_err-globs.result _ c.from_residual-in_err-globs.ensures.0
-
-pub returns-in_err-globs-clause-small : goal.returns-in_err-globs-clause-small
-returns-in_err-globs-clause-small g c =
-    IfOk-from_err c.from_residual-in_err-globs.result _ c.from_residual-in_err-globs.ensures.0
 
 pub returns-in_err-globs-clause-fault : goal.returns-in_err-globs-clause-fault
 returns-in_err-globs-clause-fault g c =

@@ -1,7 +1,7 @@
 use Rattle.std.proofs.Common.{◌≡◌, ◌≤◌, ℕ, List, length, take, subst, true, false, map, ap, sym, ◌∙◌, inl, inr}
-use Rattle.pg_lines.specs.Search.{SearchText, search_of}
-use Rattle.pg_lines.specs.Selection.{parts}
-use Rattle.pg_lines.specs.BlockParts.{part_at}
+use Rattle.pg_selection.specs.Search.{SearchText, search_of}
+use Rattle.pg_selection.specs.Selection.{parts}
+use Rattle.pg_selection.specs.BlockParts.{part_at}
 use Rattle.pg_lines.proofs.JudgeLemmas.{judges_front}
 use Rattle.pg_lines.proofs.PartLemmas.{kept_none, no_parts}
 use Rattle.pg_lines.proofs.parts.push_line_parts.Goals as goal
@@ -24,21 +24,6 @@ returns-else-options-clause-parts g c = λ trees spelled text one chosen.
           let unasked : c.options.inside.pieces ≡ false = w.if-options.false in
           kept_none c.args.found.now.items (map put (parts q text)) q.text.pieces (inl (sym pieces ∙ unasked))
     ]
-
-pub push_parts-requires-clause-fits : goal.push_parts-requires-clause-fits
-push_parts-requires-clause-fits g c = c.requires.fits
-
-pub of-requires-clause-ordered : goal.of-requires-clause-ordered
-of-requires-clause-ordered g c = c.requires.ordered
-
-pub of-requires-clause-within : goal.of-requires-clause-within
-of-requires-clause-within g c = c.requires.within
-
-pub returns-then-not-options-clause-fits : goal.returns-then-not-options-clause-fits
-returns-then-not-options-clause-fits g c = c.push_parts.ensures.fits
-
-pub returns-else-options-clause-fits : goal.returns-else-options-clause-fits
-returns-else-options-clause-fits g c = c.requires.fits
 
 pub push_parts-requires-clause-line : goal.push_parts-requires-clause-line
 push_parts-requires-clause-line g c =

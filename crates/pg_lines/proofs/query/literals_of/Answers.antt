@@ -11,7 +11,7 @@ use Rattle.pg_blocks.specs.Lines.{IsLine}
 use Rattle.pg_syntax.specs.Grammar.{Spells}
 use Rattle.pg_syntax.specs.ListResults.{AreSpelled}
 use Rattle.pg_literal.specs.Literals.{as_searched}
-use Rattle.pg_lines.specs.Search.{SearchText, Bounds, Kind, Fixed, patterns, terminator_of}
+use Rattle.pg_selection.specs.Search.{SearchText, Bounds, Kind, Fixed, patterns, terminator_of}
 use Rattle.pg_lines.proofs.LiteralLemmas.{literals_are, no_literals}
 use Rattle.pg_lines.proofs.StringLemmas.{spelled_zip}
 use Rattle.pg_lines.proofs.query.literals_of.Goals as goal
@@ -46,9 +46,6 @@ returns-then-are_within_lines-clause-fixed g c = λ is_fixed some.
     let Same : Bool → Type 0 = λ f. map (λ literal. literal.text.items) literals ≡ map (as_searched f) texts in
     subst Same (sym fold) (c.in_ok-literals.ensures.exact texts (subst Zip fold zip) some)
 
-pub returns-in_err-literals-clause-literals : goal.returns-in_err-literals-clause-literals
-returns-in_err-literals-clause-literals g c = IfOk-from_err c.from_residual.result _ c.from_residual.ensures.0
-
 pub returns-in_err-literals-clause-fixed : goal.returns-in_err-literals-clause-fixed
 returns-in_err-literals-clause-fixed g c = λ _. IfOk-from_err c.from_residual.result _ c.from_residual.ensures.0
 
@@ -68,9 +65,6 @@ returns-then-are_within_lines-clause-heads g c =
     let says = subst (Says text.fold) c.bounds.ensures
     (subst (λ f. Says f c.bounds.result) fold c.in_ok-literals.ensures.heads) in
     heads_are text trees c.requires.trees literals says
-
-pub returns-in_err-literals-clause-heads : goal.returns-in_err-literals-clause-heads
-returns-in_err-literals-clause-heads g c = IfOk-from_err c.from_residual.result _ c.from_residual.ensures.0
 
 pub returns-else-are_within_lines-clause-heads : goal.returns-else-are_within_lines-clause-heads
 returns-else-are_within_lines-clause-heads g c = λ some. absurd (omega (arith, some, ap length c.new.ensures.items))

@@ -1,10 +1,11 @@
 use Rattle.std.proofs.Common.{◌<◌, ◌≤◌, ◌^◌, ℕ, Option, Some, None, List, length, drop, sym, ap, ◌∙◌, subst, arith}
-use Rattle.std.specs.Option.{IfSome, IfNone}
-use Rattle.pg_lines.specs.Search.{search_of, uninverted, terminator_of}
-use Rattle.pg_lines.specs.Selection.{selects}
+use Rattle.std.specs.Option.{MatchOption}
+use Rattle.pg_selection.specs.Search.{SearchText, Pattern, AreTreesOf, search_of, uninverted, terminator_of}
+use Rattle.pg_selection.specs.Selection.{selects}
 use Rattle.pg_lines.specs.Candidates.{literals_sought}
+use Rattle.pg_lines.specs.Finding.{HasNoNextHit, IsNextHit}
 use Rattle.pg_blocks.specs.declared.span.Span.{Span}
-use Rattle.pg_lines.proofs.CandidateLemmas.{skipped_all, skipped_some, skipped_more, missed_without}
+use Rattle.pg_lines.proofs.CandidateLemmas.{IsSkipped, skipped_all, skipped_some, skipped_more, missed_without}
 use Rattle.pg_lines.proofs.CandidateLemmas.{first_selected, first_enough, first_short, found_text}
 use Rattle.pg_lines.proofs.JudgeLemmas.{judges_front}
 use Rattle.pg_lines.proofs.SoughtLemmas.{are_sought, needles_later}
@@ -12,8 +13,8 @@ use Rattle.pg_lines.proofs.search.next_confirmed.Goals as goal
 use Rattle.pg_lines.proofs.search.next_confirmed.Goals.{then-found-via-then-found}
 use Rattle.pg_lines.proofs.search.next_confirmed.Goals.{then-found-via-else-found+then-has_hit}
 
-pub returns-in-Nowhere-clause-none : goal.returns-in-Nowhere-clause-none
-returns-in-Nowhere-clause-none g c = λ trees spelled.
+pub returns-in-Nowhere-clause-found : goal.returns-in-Nowhere-clause-found
+returns-in-Nowhere-clause-found g c = λ trees spelled.
     let text = c.args.query.now.text in
     let bytes = c.args.bytes.now in
     let from = c.loop-in_vain.from in
@@ -44,8 +45,8 @@ has_hit-requires-clause-short g c =
     let P : List ℕ → Type 0 = λ l. length l ≤ 2 ^ 30 in
     subst P (sym cut) (first_short text.fold E literals from bytes found first i.short).0
 
-pub returns-then-found-clause-some : goal.returns-then-found-clause-some
-returns-then-found-clause-some g c = λ trees spelled.
+pub returns-then-found-clause-found : goal.returns-then-found-clause-found
+returns-then-found-clause-found g c =
     let text = c.args.query.now.text in
     let E = terminator_of text in
     let bytes = c.args.bytes.now in
@@ -58,16 +59,21 @@ returns-then-found-clause-some g c = λ trees spelled.
     let any : 0 < length literals =
     subst (λ ls. 0 < length ls) (sym c.next_line.ensures.literals) i.some in
     let first = c.in-Found.ensures.next.3 in
-    let q = search_of (uninverted text) trees in
-    skipped_some q c.args.at from bytes (i.skipped trees spelled) found.line (elim c.then-found.branch [
-      | then-found-via-then-found w ↦
-          first_enough text trees spelled literals are any from (drop from bytes) found first w.if-found.true
-      | then-found-via-else-found+then-has_hit w ↦
-          let cut = found_text text.fold E literals from bytes found c.terminator-end.result c.text_of-text.result.now
-          c.terminator-end.ensures first c.text_of-text.ensures.text in
-          first_selected text trees spelled literals are any from (drop from bytes) found first
-          (ap (selects q) (sym cut) ∙ (sym (w.has_hit.ensures.hit trees spelled) ∙ w.if-has_hit.true))
-    ])
+    let next = c.in-Found.ensures.next in
+    record {
+      within = (omega (arith, i.low, next.0), next.1, next.2);
+      first = λ trees spelled.
+          let q = search_of (uninverted text) trees in
+          skipped_some q c.args.at from bytes (i.skipped trees spelled) found.line (elim c.then-found.branch [
+            | then-found-via-then-found w ↦
+                first_enough text trees spelled literals are any from (drop from bytes) found first w.if-found.true
+            | then-found-via-else-found+then-has_hit w ↦
+                let cut = found_text text.fold E literals from bytes found c.terminator-end.result
+                c.text_of-text.result.now c.terminator-end.ensures first c.text_of-text.ensures.text in
+                first_selected text trees spelled literals are any from (drop from bytes) found first
+                (ap (selects q) (sym cut) ∙ (sym (w.has_hit.ensures.hit trees spelled) ∙ w.if-has_hit.true))
+          ]);
+    }
 
 pub loop-in_vain-preserved : goal.loop-in_vain-preserved
 loop-in_vain-preserved g c =
@@ -101,85 +107,38 @@ loop-in_vain-preserved g c =
           first (ap (selects q) (sym cut) ∙ (sym (c.has_hit.ensures.hit trees spelled) ∙ c.if-has_hit.false));
     }
 
-if_some : (P Q : Span → Type 0) (o : Option Span) → ((x : Span) → P x → Q x) → IfSome o P → IfSome o Q
-if_some P Q None more h = h
-if_some P Q (Some x) more h = more x h
+-- what is found behind lines that have no hit is found behind what stands before them
+found_later : (text : SearchText) (bytes : List ℕ) (at from : ℕ) (line : Option Span) → at ≤ from
+    → ((trees : List Pattern) → AreTreesOf text trees → IsSkipped (search_of (uninverted text) trees) at from bytes)
+    → MatchOption line (HasNoNextHit text bytes from) (IsNextHit text bytes from)
+    → MatchOption line (HasNoNextHit text bytes at) (IsNextHit text bytes at)
+found_later text bytes at from None low skipped none = λ trees spelled.
+    skipped_all (search_of (uninverted text) trees) at from bytes (skipped trees spelled) (none trees spelled)
+found_later text bytes at from (Some line) low skipped next = record {
+  within = (omega (arith, low, next.within.0), next.within.1, next.within.2);
+  first = λ trees spelled. skipped_some (search_of (uninverted text) trees) at from bytes (skipped trees spelled) line
+      (next.first trees spelled);
+}
 
-if_none : (P Q : Type 0) (o : Option Span) → (P → Q) → IfNone o P → IfNone o Q
-if_none P Q None more h = more h
-if_none P Q (Some x) more h = h
+pub returns-clause-found : goal.returns-clause-found
+returns-clause-found g c =
+    let i = c.loop-in_vain.invariant in
+    found_later c.args.query.now.text c.args.bytes.now c.args.at c.loop-in_vain.from c.next_matched.result i.low
+    i.skipped c.next_matched.ensures.found
 
-pub returns-clause-some : goal.returns-clause-some
-returns-clause-some g c = λ trees spelled.
-    let q = search_of (uninverted c.args.query.now.text) trees in
-    let is = c.loop-in_vain.invariant.skipped trees spelled in
-    if_some _ _ c.next_matched.result (skipped_some q c.args.at c.loop-in_vain.from c.args.bytes.now is)
-    (c.next_matched.ensures.some trees spelled)
-
-pub returns-clause-none : goal.returns-clause-none
-returns-clause-none g c = λ trees spelled.
-    let q = search_of (uninverted c.args.query.now.text) trees in
-    let is = c.loop-in_vain.invariant.skipped trees spelled in
-    if_none _ _ c.next_matched.result (skipped_all q c.args.at c.loop-in_vain.from c.args.bytes.now is)
-    (c.next_matched.ensures.none trees spelled)
-
-pub returns-in-GaveUp-clause-some : goal.returns-in-GaveUp-clause-some
-returns-in-GaveUp-clause-some g c = λ trees spelled.
-    let q = search_of (uninverted c.args.query.now.text) trees in
-    let is = c.loop-in_vain.invariant.skipped trees spelled in
-    if_some _ _ c.next_by_automaton.result (skipped_some q c.args.at c.loop-in_vain.from c.args.bytes.now is)
-    (c.next_by_automaton.ensures.some trees spelled)
-
-pub returns-in-GaveUp-clause-none : goal.returns-in-GaveUp-clause-none
-returns-in-GaveUp-clause-none g c = λ trees spelled.
-    let q = search_of (uninverted c.args.query.now.text) trees in
-    let is = c.loop-in_vain.invariant.skipped trees spelled in
-    if_none _ _ c.next_by_automaton.result (skipped_all q c.args.at c.loop-in_vain.from c.args.bytes.now is)
-    (c.next_by_automaton.ensures.none trees spelled)
-
-pub next_line-requires-clause-at : goal.next_line-requires-clause-at
-next_line-requires-clause-at g c = c.loop-in_vain.invariant.within
-
-pub next_line-requires-clause-needles : goal.next_line-requires-clause-needles
-next_line-requires-clause-needles g c = c.loop-in_vain.invariant.needles
-
-pub next_line-requires-clause-some : goal.next_line-requires-clause-some
-next_line-requires-clause-some g c = c.loop-in_vain.invariant.some
+pub returns-in-GaveUp-clause-found : goal.returns-in-GaveUp-clause-found
+returns-in-GaveUp-clause-found g c =
+    let i = c.loop-in_vain.invariant in
+    found_later c.args.query.now.text c.args.bytes.now c.args.at c.loop-in_vain.from c.next_by_automaton.result i.low
+    i.skipped c.next_by_automaton.ensures.found
 
 pub returns-in-Nowhere-clause-needles : goal.returns-in-Nowhere-clause-needles
 returns-in-Nowhere-clause-needles g c = tt
-
-pub returns-in-Nowhere-clause-fits : goal.returns-in-Nowhere-clause-fits
-returns-in-Nowhere-clause-fits g c = c.loop-in_vain.invariant.fits
-
-pub returns-in-Nowhere-clause-within : goal.returns-in-Nowhere-clause-within
-returns-in-Nowhere-clause-within g c = tt
-
-pub returns-in-Nowhere-clause-some : goal.returns-in-Nowhere-clause-some
-returns-in-Nowhere-clause-some g c = λ trees spelled. tt
-
-pub has_hit-requires-clause-fits : goal.has_hit-requires-clause-fits
-has_hit-requires-clause-fits g c = c.loop-in_vain.invariant.fits
-
-pub next_matched-requires-clause-at : goal.next_matched-requires-clause-at
-next_matched-requires-clause-at g c = c.loop-in_vain.invariant.within
-
-pub next_matched-requires-clause-fits : goal.next_matched-requires-clause-fits
-next_matched-requires-clause-fits g c = c.loop-in_vain.invariant.fits
-
-pub next_matched-requires-clause-short : goal.next_matched-requires-clause-short
-next_matched-requires-clause-short g c = c.loop-in_vain.invariant.short
-
-pub returns-clause-fits : goal.returns-clause-fits
-returns-clause-fits g c = c.next_matched.ensures.fits
 
 pub has_hit-requires-clause-line : goal.has_hit-requires-clause-line
 has_hit-requires-clause-line g c =
     let line = c.in-Found.found.line in
     let next = c.in-Found.ensures.next in
     let text = c.text_of-text.ensures in
-    judges_front c.args.query.now.text c.args.bytes.now c.args.strings.now c.requires.strings c.text_of-text.result.now
+    judges_front c.args.query.now.text c.args.bytes.now c.args.strings.now c.requires.ready.strings c.text_of-text.result.now
     line.start line.end (omega (arith, next.1)) next.2 text.front text.short
-
-pub next_matched-requires-clause-strings : goal.next_matched-requires-clause-strings
-next_matched-requires-clause-strings g c = c.requires.strings

@@ -1,7 +1,7 @@
 use Rattle.std.proofs.Common.{ℕ, ◌+◌, ◌-◌, List, length, take, drop, sym, ◌∙◌, subst, arith, refl, inl, inr}
 use Rattle.std.proofs.Common.{ap, length-drop}
 use Rattle.std.proofs.lemmas.List.{take_rest}
-use Rattle.pg_lines.specs.Search.{search_of, uninverted, terminator_of}
+use Rattle.pg_selection.specs.Search.{search_of, uninverted, terminator_of}
 use Rattle.pg_lines.specs.Gathered.{IsNextLine}
 use Rattle.pg_lines.proofs.JudgeLemmas.{judges_behind}
 use Rattle.pg_lines.proofs.RunLemmas.{line_found, line_passed, line_unselected}
@@ -9,8 +9,8 @@ use Rattle.pg_lines.proofs.ScanLemmas.{GoesOn, scanned, not_passed, scanned_shor
 use Rattle.pg_lines.proofs.search.next_matched.Goals as goal
 use Rattle.pg_lines.proofs.search.next_matched.Goals.{then-stop-rest, else-stop-rest}
 
-pub returns-then-has_hit-clause-some : goal.returns-then-has_hit-clause-some
-returns-then-has_hit-clause-some g c = λ trees spelled.
+pub returns-then-has_hit-clause-found : goal.returns-then-has_hit-clause-found
+returns-then-has_hit-clause-found g c =
     let bytes = c.args.bytes.now in
     let at = c.args.at in
     let text = c.args.query.now.text in
@@ -27,10 +27,20 @@ returns-then-has_hit-clause-some g c = λ trees spelled.
     let line = scanned (terminator_of text) _ rest s stop next c.terminator-end.ensures c.loop-start-test.true e.low
     e.high e.clear e.ended goes in
     let front = not_passed (terminator_of text) rest s c.loop-start-test.true i.passed in
-    let P : List ℕ → Type 0 =
-    λ xs. IsNextLine (search_of (uninverted text) trees) at xs (record { start = at + s; end = at + next }) in
-    subst P (take_rest bytes at) (line_found (search_of (uninverted text) trees) rest at s stop next _ line front
-    (i.unselected trees spelled) (sym (c.has_hit.ensures.hit trees spelled) ∙ c.if-has_hit.true) refl refl)
+    let long = ap length (take_rest bytes at) in
+    let behind = length-drop at bytes in
+    let some = c.loop-start-test.true in
+    record {
+      within = elim goes [
+        | inl h ↦ (omega arith, omega (arith, h.1, e.low), omega (arith, h.0, h.1, long, behind, c.requires.at))
+        | inr h ↦ (omega arith, omega (arith, h.0, h.1, some), omega (arith, h.1, e.high, long, behind, c.requires.at))
+      ];
+      first = λ trees spelled.
+          let q = search_of (uninverted text) trees in
+          let P : List ℕ → Type 0 = λ xs. IsNextLine q at xs (record { start = at + s; end = at + next }) in
+          subst P (take_rest bytes at) (line_found q rest at s stop next _ line front (i.unselected trees spelled)
+          (sym (c.has_hit.ensures.hit trees spelled) ∙ c.if-has_hit.true) refl refl);
+    }
 
 pub loop-start-preserved : goal.loop-start-preserved
 loop-start-preserved g c =
@@ -58,15 +68,6 @@ loop-start-preserved g c =
           (i.unselected trees spelled) (sym (c.has_hit.ensures.hit trees spelled) ∙ c.if-has_hit.false);
       short = (scanned_short (terminator_of text) _ rest s stop next c.terminator-end.ensures e.line i.short goes).1;
     }
-
-pub has_hit-requires-clause-fits : goal.has_hit-requires-clause-fits
-has_hit-requires-clause-fits g c = c.loop-start.invariant.fits
-
-pub returns-then-has_hit-clause-fits : goal.returns-then-has_hit-clause-fits
-returns-then-has_hit-clause-fits g c = c.has_hit.ensures.fits
-
-pub returns-clause-fits : goal.returns-clause-fits
-returns-clause-fits g c = c.loop-start.invariant.fits
 
 pub has_hit-requires-clause-line : goal.has_hit-requires-clause-line
 has_hit-requires-clause-line g c =

@@ -1,7 +1,7 @@
 use Rattle.std.proofs.Common.{◌+◌, List, length, slice_range, ap, sym, ◌∙◌, subst, arith, refl}
 use Rattle.pg_blocks.specs.Lines.{lines}
 use Rattle.pg_lines.specs.Gathered.{IsGathered}
-use Rattle.pg_lines.specs.declared.run.Run.{Run}
+use Rattle.pg_selection.specs.declared.run.Run.{Run}
 use Rattle.pg_lines.proofs.GatherLemmas.{gathered_gap, gathered_next}
 use Rattle.pg_lines.proofs.search.with_line.Goals as goal
 

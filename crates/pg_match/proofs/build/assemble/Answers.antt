@@ -1,10 +1,11 @@
-use Rattle.std.proofs.lemmas.Result.{IfOk-from_err}
-use Rattle.std.proofs.Common.{◌≡◌, length, map, arith, subst, refl, Some, ap, ◌∙◌}
+use Rattle.std.proofs.Common.{◌≡◌, ℕ, List, length, map, arith, subst, refl, Some, ap, ◌∙◌}
 use Rattle.std.specs.Prelude.{slice_get, option_map}
 use Rattle.std.proofs.lemmas.List.{length-map}
 use Rattle.std.proofs.lemmas.Option.{slice_get_read, slice_get-map}
 use Rattle.pg_pattern.specs.Trees.{pattern}
 use Rattle.pg_match.specs.Tables.{HasFirst}
+use Rattle.pg_match.specs.Starts.{AreStarts}
+use Rattle.pg_match.specs.declared.state.State.{State}
 use Rattle.pg_match.proofs.BuildLemmas.{each_proper, room_for, building_one, building_more, built, runnable, any_some}
 use Rattle.pg_match.proofs.BuildLemmas.{some_any, begun}
 use Rattle.pg_match.proofs.build.assemble.Goals as goal
@@ -51,78 +52,32 @@ loop-i-preserved g c =
           w.in_ok-start.ensures here)
     ]
 
-pub returns-clause-runs : goal.returns-clause-runs
-returns-clause-runs g c = runnable _ _ _ c.loop-i.invariant
-
-pub returns-clause-built : goal.returns-clause-built
-returns-clause-built g c =
+pub returns : goal.returns
+returns g c =
     let trees = c.args.trees.now in
+    let starts = c.in_ok-starts.starts in
     let same = length-map trees pattern in
     let end : c.loop-i.i ≡ length (map pattern trees) = omega (arith, same) in
-    let b = subst (λ i. HasFirst c.loop-i.states.items (map pattern trees) i c.loop-i.start) end c.loop-i.invariant in
-    built _ (map pattern trees) c.requires.proper c.args.bounds b refl
-    (λ h. let n = any_some (length trees) _ c.is_empty.ensures h in omega (arith, same))
-    (λ h. some_any (length trees) _ c.is_empty.ensures (omega (arith, same)))
-
-pub returns-in_err-push-clause-runs : goal.returns-in_err-push-clause-runs
-returns-in_err-push-clause-runs g c = IfOk-from_err c.from_residual.result _ c.from_residual.ensures.0
-
-pub returns-in_err-push-clause-seeds : goal.returns-in_err-push-clause-seeds
-returns-in_err-push-clause-seeds g c = IfOk-from_err c.from_residual.result _ c.from_residual.ensures.0
-
-pub returns-in_err-push-clause-built : goal.returns-in_err-push-clause-built
-returns-in_err-push-clause-built g c = IfOk-from_err c.from_residual.result _ c.from_residual.ensures.0
-
-pub offset_bounds-trees-i : goal.offset_bounds-trees-i
-offset_bounds-trees-i g c = omega arith
-
-pub bounds-trees-i : goal.bounds-trees-i
-bounds-trees-i g c = omega arith
-
-pub returns-in_err-entry-clause-runs : goal.returns-in_err-entry-clause-runs
-returns-in_err-entry-clause-runs g c =
-    IfOk-from_err c.from_residual-in_err-entry.result _ c.from_residual-in_err-entry.ensures.0
-
-pub returns-in_err-entry-clause-seeds : goal.returns-in_err-entry-clause-seeds
-returns-in_err-entry-clause-seeds g c =
-    IfOk-from_err c.from_residual-in_err-entry.result _ c.from_residual-in_err-entry.ensures.0
-
-pub returns-in_err-entry-clause-built : goal.returns-in_err-entry-clause-built
-returns-in_err-entry-clause-built g c =
-    IfOk-from_err c.from_residual-in_err-entry.result _ c.from_residual-in_err-entry.ensures.0
-
-pub returns-in_err-start-clause-runs : goal.returns-in_err-start-clause-runs
-returns-in_err-start-clause-runs g c =
-    IfOk-from_err c.from_residual-in_err-start.result _ c.from_residual-in_err-start.ensures.0
-
-pub returns-in_err-start-clause-seeds : goal.returns-in_err-start-clause-seeds
-returns-in_err-start-clause-seeds g c =
-    IfOk-from_err c.from_residual-in_err-start.result _ c.from_residual-in_err-start.ensures.0
-
-pub returns-in_err-start-clause-built : goal.returns-in_err-start-clause-built
-returns-in_err-start-clause-built g c =
-    IfOk-from_err c.from_residual-in_err-start.result _ c.from_residual-in_err-start.ensures.0
-
-pub returns-in_err-seeds-clause-runs : goal.returns-in_err-seeds-clause-runs
-returns-in_err-seeds-clause-runs g c =
-    IfOk-from_err c.from_residual-in_err-seeds.result _ c.from_residual-in_err-seeds.ensures.0
-
-pub returns-in_err-seeds-clause-seeds : goal.returns-in_err-seeds-clause-seeds
-returns-in_err-seeds-clause-seeds g c =
-    IfOk-from_err c.from_residual-in_err-seeds.result _ c.from_residual-in_err-seeds.ensures.0
-
-pub returns-in_err-seeds-clause-built : goal.returns-in_err-seeds-clause-built
-returns-in_err-seeds-clause-built g c =
-    IfOk-from_err c.from_residual-in_err-seeds.result _ c.from_residual-in_err-seeds.ensures.0
+    let b = subst (λ i. HasFirst c.loop-i.states.items (map pattern trees) i c.loop-i.start) end c.loop-i.invariant in (
+      record {
+        runs = runnable _ _ _ c.loop-i.invariant;
+        seeds = rw c.deref.ensures.value at c.in_ok-seeds.ensures;
+        starts =
+            let P : List State → List ℕ → Type 0 =
+            λ t seeds. AreStarts t seeds starts.targets.items starts.cuts.items starts.accepts in
+            subst (λ t. P t c.in_ok-seeds.seeds.items) c.deref-2.ensures.value
+            (subst (P c.deref-2.result.now) c.deref-3.ensures.value c.in_ok-starts.ensures);
+      },
+      built _ (map pattern trees) c.requires.proper c.args.bounds b refl
+          (λ h. let n = any_some (length trees) _ c.is_empty.ensures h in omega (arith, same))
+          (λ h. some_any (length trees) _ c.is_empty.ensures (omega (arith, same))),
+    )
 
 pub push-requires : goal.push-requires
 push-requires g c = omega arith
 
 pub add-requires-clause-next_in : goal.add-requires-clause-next_in
 add-requires-clause-next_in g c = omega arith
-
-pub add-requires-clause-tidy : goal.add-requires-clause-tidy
-add-requires-clause-tidy g c = c.loop-i.invariant.tidy
 
 pub seeds-requires-clause-within : goal.seeds-requires-clause-within
 seeds-requires-clause-within g c = omega arith
@@ -132,6 +87,3 @@ loop-i-init g c = begun _ _ _ _ c.new-states.ensures.items c.in_ok-push.ensures
 
 pub seeds-requires-clause-tidy : goal.seeds-requires-clause-tidy
 seeds-requires-clause-tidy g c = rw c.deref.ensures.value c.loop-i.invariant.tidy
-
-pub returns-clause-seeds : goal.returns-clause-seeds
-returns-clause-seeds g c = rw c.deref.ensures.value at c.in_ok-seeds.ensures

@@ -43,30 +43,3 @@ returns-in-Read g c =
         | inr a ↦ read_followed _ _ _ _ _ _ Accept (stands _ _ _ within a) (λ r e. e) good
       ]
     ]
-
-pub insert-requires-clause-good : goal.insert-requires-clause-good
-insert-requires-clause-good g c = c.requires.good
-
-pub insert-requires-then-place-eq0-clause-good : goal.insert-requires-then-place-eq0-clause-good
-insert-requires-then-place-eq0-clause-good g c = c.requires.good
-
-pub insert-requires-then-place-line-clause-good : goal.insert-requires-then-place-line-clause-good
-insert-requires-then-place-line-clause-good g c = c.requires.good
-
-pub insert-requires-in-Split-clause-good : goal.insert-requires-in-Split-clause-good
-insert-requires-in-Split-clause-good g c = c.requires.good
-
-pub insert-requires-clause-some : goal.insert-requires-clause-some
-insert-requires-clause-some g c = c.requires.some
-
-pub insert-requires-then-place-eq0-clause-some : goal.insert-requires-then-place-eq0-clause-some
-insert-requires-then-place-eq0-clause-some g c = c.requires.some
-
-pub insert-requires-then-place-line-clause-some : goal.insert-requires-then-place-line-clause-some
-insert-requires-then-place-line-clause-some g c = c.requires.some
-
-pub insert-requires-in-Split-clause-some : goal.insert-requires-in-Split-clause-some
-insert-requires-in-Split-clause-some g c = c.requires.some
-
-pub insert-requires-in-Split-2-clause-some : goal.insert-requires-in-Split-2-clause-some
-insert-requires-in-Split-2-clause-some g c = c.requires.some

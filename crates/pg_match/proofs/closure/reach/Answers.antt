@@ -27,29 +27,17 @@ loop-next-preserved g c =
     (subst (λ q. Followed c.args.states.now c.args.line.now c.args.place s (members c.follow.new.set) q c.args.mark) e
     c.follow.ensures)
 
-pub insert-requires-clause-good : goal.insert-requires-clause-good
-insert-requires-clause-good g c = c.requires.good
-
 pub insert-requires-clause-within : goal.insert-requires-clause-within
 insert-requires-clause-within g c = omega arith
 
 pub insert-requires-clause-some : goal.insert-requires-clause-some
 insert-requires-clause-some g c = omega arith
 
-pub follow-requires-clause-tidy : goal.follow-requires-clause-tidy
-follow-requires-clause-tidy g c = c.requires.tidy
-
-pub follow-requires-clause-good : goal.follow-requires-clause-good
-follow-requires-clause-good g c = c.loop-next.invariant.good
-
 pub follow-requires-clause-size : goal.follow-requires-clause-size
 follow-requires-clause-size g c = omega arith
 
 pub follow-requires-clause-some : goal.follow-requires-clause-some
 follow-requires-clause-some g c = omega arith
-
-pub returns-clause-paths : goal.returns-clause-paths
-returns-clause-paths g c = c.loop-next.invariant.paths
 
 pub returns-clause-reached : goal.returns-clause-reached
 returns-clause-reached g c = reached _ _ _ _ _ _ _ _ c.loop-next.invariant c.loop-next-test.false

@@ -1,4 +1,3 @@
-use Rattle.std.proofs.lemmas.Result.{IfOk-from_err}
 use Rattle.std.proofs.Common.{arith, ◌∙◌, [], ◌∷◌}
 use Rattle.pg_match.specs.Views.{members}
 use Rattle.pg_match.proofs.ClosureLemmas.{seeds_found}
@@ -11,15 +10,6 @@ returns g c =
     (seeds_found c.args.states.now (0 ∷ 0 ∷ []) 1 (members c.in_ok-set.set) (members c.reach.new.set) c.args.start 1
     (λ e. omega arith) (λ e. omega arith) c.in_ok-set.ensures.empty
     (size ∙ c.in_ok-set.ensures.size) c.reach.ensures.reached c.reach.ensures.paths)
-
-pub returns-in_err-set : goal.returns-in_err-set
-returns-in_err-set g c = IfOk-from_err c.from_residual.result _ c.from_residual.ensures.0
-
-pub reach-requires-clause-tidy : goal.reach-requires-clause-tidy
-reach-requires-clause-tidy g c = c.requires.tidy
-
-pub reach-requires-clause-good : goal.reach-requires-clause-good
-reach-requires-clause-good g c = c.in_ok-set.ensures.good
 
 pub reach-requires-clause-within : goal.reach-requires-clause-within
 reach-requires-clause-within g c = omega arith

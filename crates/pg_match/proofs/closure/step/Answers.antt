@@ -99,23 +99,8 @@ offset_bounds-states-state g c = omega arith
 pub overflow_add-place : goal.overflow_add-place
 overflow_add-place g c = omega arith
 
-pub reach-requires-clause-tidy : goal.reach-requires-clause-tidy
-reach-requires-clause-tidy g c = c.requires.tidy
-
-pub reach-requires-clause-good : goal.reach-requires-clause-good
-reach-requires-clause-good g c = c.loop-k.invariant.stepping.good
-
 pub reach-requires-clause-size : goal.reach-requires-clause-size
 reach-requires-clause-size g c = omega arith
-
-pub reach-requires-clause-closed : goal.reach-requires-clause-closed
-reach-requires-clause-closed g c = c.loop-k.invariant.stepping.closed
-
-pub reach-requires-clause-ordered : goal.reach-requires-clause-ordered
-reach-requires-clause-ordered g c = c.loop-k.invariant.stepping.ordered
-
-pub clear-requires : goal.clear-requires
-clear-requires g c = c.requires.next_good
 
 pub index-state-requires : goal.index-state-requires
 index-state-requires g c = let long = list_long (members c.args.current.now) c.requires.good in omega arith
@@ -135,6 +120,3 @@ loop-k-init g c = record {
 
 pub returns-clause-stepped : goal.returns-clause-stepped
 returns-clause-stepped g c = stepped _ _ _ _ _ _ c.loop-k.k c.loop-k.invariant.stepping (omega arith) c.requires.good
-
-pub returns-clause-counted : goal.returns-clause-counted
-returns-clause-counted g c = c.loop-k.invariant.counted

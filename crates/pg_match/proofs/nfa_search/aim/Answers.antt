@@ -59,12 +59,6 @@ loop-k-preserved g c =
 pub offset_bounds-states-state : goal.offset_bounds-states-state
 offset_bounds-states-state g c = omega arith
 
-pub insert-requires-clause-good : goal.insert-requires-clause-good
-insert-requires-clause-good g c = c.loop-k.invariant.aimed.good
-
-pub clear-requires : goal.clear-requires
-clear-requires g c = c.requires.next_good
-
 pub index-state-requires : goal.index-state-requires
 index-state-requires g c = let long = list_long (members c.args.current.now) c.requires.good in omega arith
 
@@ -90,6 +84,3 @@ returns-clause-aimed g c =
     let end : c.loop-k.k ≡ c.args.current.now.len = omega arith in
     subst (λ k. Aimed c.args.states.now c.args.byte (members c.args.current.now) (members c.loop-k.next) k) end
     c.loop-k.invariant.aimed
-
-pub returns-clause-counted : goal.returns-clause-counted
-returns-clause-counted g c = c.loop-k.invariant.counted

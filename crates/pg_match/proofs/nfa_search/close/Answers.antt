@@ -26,12 +26,6 @@ loop-next-preserved g c =
 pub returns : goal.returns
 returns g c = all_closed _ _ _ _ _ _ c.loop-next.invariant c.loop-next-test.false
 
-pub spread-requires-clause-tidy : goal.spread-requires-clause-tidy
-spread-requires-clause-tidy g c = c.requires.tidy
-
-pub spread-requires-clause-good : goal.spread-requires-clause-good
-spread-requires-clause-good g c = c.loop-next.invariant.good
-
 pub spread-requires-clause-size : goal.spread-requires-clause-size
 spread-requires-clause-size g c = omega arith
 

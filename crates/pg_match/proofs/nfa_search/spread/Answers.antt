@@ -44,15 +44,3 @@ returns-in-Read g c =
         | inr a ↦ none_spread _ _ _ _ _ Accept (stands _ _ _ within a) (λ r e. e) good
       ]
     ]
-
-pub insert-requires-clause-good : goal.insert-requires-clause-good
-insert-requires-clause-good g c = c.requires.good
-
-pub insert-requires-then-first-clause-good : goal.insert-requires-then-first-clause-good
-insert-requires-then-first-clause-good g c = c.requires.good
-
-pub insert-requires-then-last-clause-good : goal.insert-requires-then-last-clause-good
-insert-requires-then-last-clause-good g c = c.requires.good
-
-pub insert-requires-in-Split-clause-good : goal.insert-requires-in-Split-clause-good
-insert-requires-in-Split-clause-good g c = c.requires.good

@@ -1,8 +1,7 @@
 use Rattle.std.proofs.Common.{◌≡◌, inl, inr, ⊎_elim, true, List, All, Any, [], ◌∷◌, ◌++◌, refl, sym, subst, arith}
 use Rattle.std.proofs.lemmas.Result.{err_from_is_err_and}
-use Rattle.std.specs.Arc.{arc_value}
 use Rattle.pg_match.specs.Machines.{Fits, Room}
-use Rattle.pg_lines.specs.Searched.{Searched}
+use Rattle.pg_selection.specs.Searched.{Searched}
 use Rattle.pg_board.specs.Board.{SeatView}
 use Rattle.pg_board.specs.Tray.{PutView}
 use Rattle.pg_round.specs.declared.worker.Worker.{Worker}
@@ -17,7 +16,7 @@ loop-worker-preserved g c =
     let s = c.push_reserved.ensures in let p = c.push_reserved-in-Some.ensures in let k = c.in_ok-push.ensures in
     let w : Worker A = c.in-Some.worker in let rest : List (Worker A) = c.pop.new.self.items in
     let P : Worker A → Type 0 = HasFinished t in
-    let IsFit : Room → Type 0 = λ s. Fits s (arc_value c.args.round.query.now).machine in
+    let IsFit : Room → Type 0 = λ s. Fits s c.args.round.query.now.machine in
     let WasSpent : Worker A → Type 0 = λ w. w.seat.spent ≡ true in
     let IsSpent : SeatView → Type 0 = λ s. s.spent ≡ true in
     let all : All P (rest ++ w ∷ []) = subst (λ (l : List (Worker A)). All P l) c.in-Some.ensures.items i.finished in

@@ -1,5 +1,4 @@
 use Rattle.std.proofs.Common.{◌≡◌, ◌⊎◌, ◌+◌, ◌≤◌, true, All, Any, vec_len, vec_capacity}
-use Rattle.std.specs.Arc.{arc_value}
 use Rattle.pg_match.specs.Machines.{Fits, Room}
 use Rattle.pg_board.specs.Board.{SeatView}
 use Rattle.pg_round.specs.declared.worker.Worker.{Worker}
@@ -12,7 +11,7 @@ invariant-loop-worker g l = record {
   works : AreWorks (task_of l.round) l.seats.items l.passes.items;
   spent : Any (λ (w : Worker g.row.A.Denot). w.seat.spent ≡ true) l.workers.items
       ⊎ Any (λ (s : SeatView). s.spent ≡ true) l.seats.items;
-  fits : All (λ (s : Room). Fits s (arc_value l.round.query.now).machine) l.scratches.items;
+  fits : All (λ (s : Room). Fits s l.round.query.now.machine) l.scratches.items;
   same : vec_len l.passes ≡ vec_len l.seats;
   count : vec_len l.workers + vec_len l.seats ≡ vec_len l.initial.workers;
   back : vec_len l.scratches + vec_len l.workers ≡ vec_len l.initial.scratches + vec_len l.initial.workers;

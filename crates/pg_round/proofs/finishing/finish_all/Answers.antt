@@ -5,9 +5,6 @@ use Rattle.pg_round.specs.Workers.{task_of, HasWorked, HasFinished}
 use Rattle.pg_round.proofs.ListLemmas.{all_taken}
 use Rattle.pg_round.proofs.finishing.finish_all.Goals as goal
 
-pub finish-requires-clause-ready : goal.finish-requires-clause-ready
-finish-requires-clause-ready g c = c.requires.ready
-
 pub finish-requires-clause-worked : goal.finish-requires-clause-worked
 finish-requires-clause-worked g c =
     let below : c.loop-worker.worker-index < length c.loop-worker.worker-items =

@@ -1,8 +1,6 @@
-use Rattle.std.proofs.lemmas.Result.{IfOk-from_err}
 use Rattle.std.proofs.Common.{◌≡◌, List, All, [], ◌∷◌, ◌++◌, false, None, refl, sym, subst, arith}
-use Rattle.std.specs.Arc.{arc_value}
 use Rattle.pg_match.specs.Machines.{Fits, Room}
-use Rattle.pg_lines.specs.Searched.{Searched}
+use Rattle.pg_selection.specs.Searched.{Searched}
 use Rattle.pg_board.specs.Board.{SeatView, seat_view}
 use Rattle.pg_board.specs.Tray.{PutView, put_view}
 use Rattle.pg_round.specs.declared.worker.Worker.{Worker}
@@ -16,7 +14,7 @@ loop-seat-preserved g c =
     let A : Type 0 = g.row.A.Denot in let i = c.loop-seat.invariant in let pushed = c.push_reserved.ensures in
     let IsNewSeat : SeatView → Type 0 = λ s. s ≡ seat_view c.args.round.board.now [] false in
     let IsNewPass : PutView Searched A → Type 0 = λ p. p ≡ put_view c.args.round.tray.now [] in
-    let IsFit : Room → Type 0 = λ s. Fits s (arc_value c.args.round.query.now).machine in
+    let IsFit : Room → Type 0 = λ s. Fits s c.args.round.query.now.machine in
     let P : Worker A → Type 0 = HasFinished (task_of c.args.round) in
     let seats : All IsNewSeat (c.pop.new.self.items ++ c.in-Some.seat ∷ []) =
     subst (λ (l : List SeatView). All IsNewSeat l) c.in-Some.ensures.items i.seats in
@@ -51,12 +49,6 @@ loop-seat-preserved g c =
       finished = subst (λ (l : List (Worker A)). All P l) (sym pushed.items)
           (all_more P c.loop-seat.workers.items worker i.finished new);
     }
-
-pub returns-in_err-workers-clause-workers : goal.returns-in_err-workers-clause-workers
-returns-in_err-workers-clause-workers g c = IfOk-from_err c.from_residual.result _ c.from_residual.ensures.0
-
-pub returns-in_err-workers-clause-scratches : goal.returns-in_err-workers-clause-scratches
-returns-in_err-workers-clause-scratches g c = IfOk-from_err c.from_residual.result _ c.from_residual.ensures.0
 
 pub loop-seat-init : goal.loop-seat-init
 loop-seat-init g c =

@@ -1,7 +1,6 @@
 use Rattle.std.proofs.Common.{◌≡◌, ◌+◌, ◌≤◌, [], false, All, vec_len, vec_capacity}
-use Rattle.std.specs.Arc.{arc_value}
 use Rattle.pg_match.specs.Machines.{Fits, Room}
-use Rattle.pg_lines.specs.Searched.{Searched}
+use Rattle.pg_selection.specs.Searched.{Searched}
 use Rattle.pg_board.specs.Board.{SeatView, seat_view}
 use Rattle.pg_board.specs.Tray.{PutView, put_view}
 use Rattle.pg_round.specs.Workers.{task_of, HasFinished}
@@ -11,7 +10,7 @@ abbrev pub invariant-loop-seat : goal.invariant-loop-seat
 invariant-loop-seat g l = record {
   seats : All (λ (s : SeatView). s ≡ seat_view l.round.board.now [] false) l.seats.items;
   passes : All (λ (p : PutView Searched g.row.A.Denot). p ≡ put_view l.round.tray.now []) l.passes.items;
-  fits : All (λ (s : Room). Fits s (arc_value l.round.query.now).machine) l.scratches.items;
+  fits : All (λ (s : Room). Fits s l.round.query.now.machine) l.scratches.items;
   same : vec_len l.passes ≡ vec_len l.seats;
   count : vec_len l.workers + vec_len l.seats ≡ vec_len l.initial.seats;
   left : vec_len l.scratches + vec_len l.workers ≡ vec_len l.initial.scratches;

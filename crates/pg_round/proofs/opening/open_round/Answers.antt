@@ -1,7 +1,6 @@
-use Rattle.std.proofs.lemmas.Result.{IfOk-from_err}
 use Rattle.std.proofs.Common.{◌≡◌, ◌∙◌, ℕ, List, All, [], false, length, replicate, refl, sym, subst, ap, arith}
 use Rattle.std.proofs.lemmas.List.{length-replicate}
-use Rattle.pg_lines.specs.Searched.{Searched}
+use Rattle.pg_selection.specs.Searched.{Searched}
 use Rattle.pg_board.specs.Board.{SeatView, seat_view}
 use Rattle.pg_board.specs.Tray.{PutView, put_view}
 use Rattle.pg_round.proofs.ListLemmas.{all_copies}
@@ -49,47 +48,3 @@ returns g c =
       workers = (omega (arith, c.in_ok-board.seats.ok.0), all.0);
       scratches = (left.0, omega (arith, c.in_ok-board.seats.ok.0));
     }
-
-pub returns-in_err-board-clause-board : goal.returns-in_err-board-clause-board
-returns-in_err-board-clause-board g c = IfOk-from_err c.from_residual.result _ c.from_residual.ensures.0
-
-pub returns-in_err-board-clause-take : goal.returns-in_err-board-clause-take
-returns-in_err-board-clause-take g c = IfOk-from_err c.from_residual.result _ c.from_residual.ensures.0
-
-pub returns-in_err-board-clause-workers : goal.returns-in_err-board-clause-workers
-returns-in_err-board-clause-workers g c = IfOk-from_err c.from_residual.result _ c.from_residual.ensures.0
-
-pub returns-in_err-board-clause-scratches : goal.returns-in_err-board-clause-scratches
-returns-in_err-board-clause-scratches g c = IfOk-from_err c.from_residual.result _ c.from_residual.ensures.0
-
-pub returns-in_err-tray-clause-board : goal.returns-in_err-tray-clause-board
-returns-in_err-tray-clause-board g c =
-    IfOk-from_err c.from_residual-in_err-tray.result _ c.from_residual-in_err-tray.ensures.0
-
-pub returns-in_err-tray-clause-take : goal.returns-in_err-tray-clause-take
-returns-in_err-tray-clause-take g c =
-    IfOk-from_err c.from_residual-in_err-tray.result _ c.from_residual-in_err-tray.ensures.0
-
-pub returns-in_err-tray-clause-workers : goal.returns-in_err-tray-clause-workers
-returns-in_err-tray-clause-workers g c =
-    IfOk-from_err c.from_residual-in_err-tray.result _ c.from_residual-in_err-tray.ensures.0
-
-pub returns-in_err-tray-clause-scratches : goal.returns-in_err-tray-clause-scratches
-returns-in_err-tray-clause-scratches g c =
-    IfOk-from_err c.from_residual-in_err-tray.result _ c.from_residual-in_err-tray.ensures.0
-
-pub returns-in_err-workers-clause-board : goal.returns-in_err-workers-clause-board
-returns-in_err-workers-clause-board g c =
-    IfOk-from_err c.from_residual-in_err-workers.result _ c.from_residual-in_err-workers.ensures.0
-
-pub returns-in_err-workers-clause-take : goal.returns-in_err-workers-clause-take
-returns-in_err-workers-clause-take g c =
-    IfOk-from_err c.from_residual-in_err-workers.result _ c.from_residual-in_err-workers.ensures.0
-
-pub returns-in_err-workers-clause-workers : goal.returns-in_err-workers-clause-workers
-returns-in_err-workers-clause-workers g c =
-    IfOk-from_err c.from_residual-in_err-workers.result _ c.from_residual-in_err-workers.ensures.0
-
-pub returns-in_err-workers-clause-scratches : goal.returns-in_err-workers-clause-scratches
-returns-in_err-workers-clause-scratches g c =
-    IfOk-from_err c.from_residual-in_err-workers.result _ c.from_residual-in_err-workers.ensures.0

@@ -1,6 +1,6 @@
 use Rattle.std.proofs.lemmas.Result.{IfOk-from_err, IfOk-equal}
 use Rattle.std.proofs.Common.{List, ap, ◌∙◌, subst}
-use Rattle.pg_lines.specs.Searched.{Searched}
+use Rattle.pg_selection.specs.Searched.{Searched}
 use Rattle.pg_board.specs.Merge.{IsMerge}
 use Rattle.pg_board.specs.Tray.{DeliveredView}
 use Rattle.pg_round.specs.Receipts.{HasBroken}
@@ -78,9 +78,6 @@ receive-requires g c = record { sees = c.requires.sees }
 pub returns-in_err-receive-in-Some-next-clause-ok : goal.returns-in_err-receive-in-Some-next-clause-ok
 returns-in_err-receive-in-Some-next-clause-ok g c =
     λ past st n s. IfOk-from_err c.from_residual.result _ c.from_residual.ensures.0
-
-pub returns-in_err-receive-in-Some-next-clause-calm : goal.returns-in_err-receive-in-Some-next-clause-calm
-returns-in_err-receive-in-Some-next-clause-calm g c = IfOk-from_err c.from_residual.result _ c.from_residual.ensures.0
 
 pub returns-in-None-next-clause-calm : goal.returns-in-None-next-clause-calm
 returns-in-None-next-clause-calm g c = IfOk-equal c.drain.result _ _ _ c.drain.ensures.no_failure c.loop.invariant.3

@@ -1,5 +1,5 @@
 use Rattle.std.proofs.Common.{[], ◌∷◌, subst}
-use Rattle.pg_lines.specs.Searched.{Searched}
+use Rattle.pg_selection.specs.Searched.{Searched}
 use Rattle.pg_seq.specs.History.{arrived}
 use Rattle.pg_round.specs.Receipts.{HasReceived, HasWritten}
 use Rattle.pg_round.proofs.DrainLemmas.{drain_ok, drain_err}
@@ -26,6 +26,3 @@ returns-clause-err g c = λ past st n.
     drain_err stands p c.drain.result (g.W.Sink.stream c.args.out.now).taken (g.W.Sink.stream c.drain.new.out).taken
     (g.W.Sink.stream c.args.out.now).failures (g.W.Sink.stream c.drain.new.out).failures n
     (c.drain.ensures.safe p h) c.drain.ensures.cause (c.drain.ensures.drained p h)
-
-pub returns-clause-calm : goal.returns-clause-calm
-returns-clause-calm g c = c.drain.ensures.no_failure

@@ -1,6 +1,6 @@
 use Rattle.std.proofs.Common.{List, [], ◌∷◌, refl, sym, ◌∙◌, subst}
 use Rattle.std.proofs.lemmas.Result.{err_from_is_err_and}
-use Rattle.pg_lines.specs.Searched.{Searched}
+use Rattle.pg_selection.specs.Searched.{Searched}
 use Rattle.pg_round.specs.Receipts.{HasReceived}
 use Rattle.pg_round.proofs.ReceiptLemmas.{received_more, received_none, broken_more}
 use Rattle.pg_round.proofs.receiving.take_all.Goals as goal
@@ -92,11 +92,5 @@ returns-in_err-receive-in-Some-take g c =
       read = i.read;
     })
 
-pub take-requires : goal.take-requires
-take-requires g c = c.loop.invariant.tray
-
 pub receive-requires : goal.receive-requires
 receive-requires g c = record { sees = c.requires.sees }
-
-pub read_on-looks-requires : goal.read_on-looks-requires
-read_on-looks-requires g c = c.loop.invariant.ready

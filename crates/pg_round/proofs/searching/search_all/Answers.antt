@@ -46,26 +46,11 @@ returns-in_err-search_rest g c =
       read = e.read;
     })
 
-pub returns-clause-same : goal.returns-clause-same
-returns-clause-same g c = c.in_ok-workers.ensures.same
-
-pub returns-clause-ok : goal.returns-clause-ok
-returns-clause-ok g c = c.in_ok-workers.ensures.ok
-
 pub returns-clause-err : goal.returns-clause-err
 returns-clause-err g c = λ past st n s. tt
 
 pub returns-clause-cause : goal.returns-clause-cause
 returns-clause-cause g c = λ past st n s is. no_fault _ _ is
-
-pub returns-clause-calm : goal.returns-clause-calm
-returns-clause-calm g c = c.in_ok-workers.ensures.calm
-
-pub returns-clause-ready : goal.returns-clause-ready
-returns-clause-ready g c = c.in_ok-workers.ensures.ready
-
-pub returns-clause-read : goal.returns-clause-read
-returns-clause-read g c = c.in_ok-workers.ensures.read
 
 pub search_beside-requires-clause-ready : goal.search_beside-requires-clause-ready
 search_beside-requires-clause-ready g c κs within = c.requires.ready
@@ -78,9 +63,6 @@ search_beside-requires-clause-take g c κs within = c.requires.take
 
 pub search_beside-requires-clause-reader : goal.search_beside-requires-clause-reader
 search_beside-requires-clause-reader g c κs within = c.requires.reader
-
-pub search_rest-requires-clause-ready : goal.search_rest-requires-clause-ready
-search_rest-requires-clause-ready g c = c.requires.ready
 
 pub search_rest-requires-clause-worked : goal.search_rest-requires-clause-worked
 unfolding AreBack
@@ -95,9 +77,6 @@ returns-clause-finished g c =
     let rest = c.in_ok-search_rest.ensures.finished in
     let n = rest.0 in let k = c.in_ok-workers.ensures.back.0 in
     (omega (arith, c.args.workers.ok.0, c.in_ok-workers.workers.ok.0), rest.1)
-
-pub returns-clause-spent : goal.returns-clause-spent
-returns-clause-spent g c = c.in_ok-search_rest.ensures.spent
 
 pub returns-clause-memory : goal.returns-clause-memory
 returns-clause-memory g c = λ is. no_fault _ _ is

@@ -1,7 +1,7 @@
 use Rattle.std.proofs.Common.{List, refl, sym, subst, arith}
 use Rattle.std.proofs.lemmas.List.Elements.{All-weaker}
 use Rattle.std.proofs.lemmas.Result.{IfOk-at_ok, err_from_is_err_and}
-use Rattle.pg_lines.specs.Searched.{Searched}
+use Rattle.pg_selection.specs.Searched.{Searched}
 use Rattle.pg_round.specs.Workers.{task_of, HasWorked, HasFinished, AreBack}
 use Rattle.pg_round.specs.Receipts.{HasReceived}
 use Rattle.pg_round.specs.Reading.{HasGoneOn}
@@ -49,12 +49,6 @@ returns-in_err-taken g c =
       read = λ r f h. e.read r f h;
     })
 
-pub returns-clause-back : goal.returns-clause-back
-returns-clause-back g c = c.stream-back.ensures.back
-
-pub returns-clause-same : goal.returns-clause-same
-returns-clause-same g c = c.stream-back.ensures.same
-
 pub returns-clause-ok : goal.returns-clause-ok
 returns-clause-ok g c = λ past st n s.
     let b = (g.W.Sink.stream c.args.out.now).taken in let a = (g.W.Sink.stream c.stream-back.new.out).taken in
@@ -69,9 +63,6 @@ returns-clause-err g c = λ past st n s. tt
 
 pub returns-clause-cause : goal.returns-clause-cause
 returns-clause-cause g c = λ past st n s is. no_fault _ _ is
-
-pub returns-clause-ready : goal.returns-clause-ready
-returns-clause-ready g c = c.stream-back.ensures.ready
 
 pub returns-clause-read : goal.returns-clause-read
 unfolding HasGoneOn

@@ -1,7 +1,6 @@
 use Rattle.std.proofs.Common.{◌∙◌, List, ap, refl, sym, subst, arith, ℕ, ◌≡◌, ◌+◌, ◌<◌, ◌≤◌}
-use Rattle.std.specs.Arc.{arc_value}
 use Rattle.std.proofs.lemmas.Result.{err_from_is_err_and}
-use Rattle.pg_lines.specs.Searched.{Searched}
+use Rattle.pg_selection.specs.Searched.{Searched}
 use Rattle.pg_round.specs.Receipts.{HasDelivered}
 use Rattle.pg_round.specs.declared.searching.RoundFault.TheVariants.{OutOfMemory, Sink as SinkFails}
 use Rattle.pg_round.proofs.ReceiptLemmas.{broken_more, failed_none, failed_after}
@@ -19,12 +18,6 @@ open_round-requires-clause-few g c =
     let l = c.len.ensures in
     (n.0, n.1, subst (λ k. c.count_workers-count.result ≤ k) l n.2, c.requires.few.2)
 
-pub open_round-requires-clause-fits : goal.open_round-requires-clause-fits
-open_round-requires-clause-fits g c = c.requires.fits
-
-pub close_round-requires-clause-finished : goal.close_round-requires-clause-finished
-close_round-requires-clause-finished g c = c.in_ok-workers.ensures.finished.1
-
 pub close_round-requires-clause-spent : goal.close_round-requires-clause-spent
 close_round-requires-clause-spent g c = (c.in_ok-workers.ensures.spent, sym c.in_ok-board.ensures.board.0)
 
@@ -36,9 +29,6 @@ close_round-requires-clause-all g c =
           ∙ sym (back.same.1 ∙ ap (λ t. t.workers) opened.take),
       back.same.0,
     )
-
-pub close_round-requires-clause-fits : goal.close_round-requires-clause-fits
-close_round-requires-clause-fits g c = c.in_ok-board.ensures.scratches.0
 
 pub deliver-requires : goal.deliver-requires
 deliver-requires g c = record { sees = c.requires.sees }
@@ -125,7 +115,7 @@ returns g c =
     let back = e.finished.0 in let given = c.in_ok-delivered.ensures.count in
     record {
       ok = λ past st n s.
-          round_done mid last past (arc_value c.args.query.now).text c.args.blocks.now left.lists
+          round_done mid last past c.args.query.now.text c.args.blocks.now left.lists
           c.search_all.new.take.taken b m a c.in_ok-delivered.ensures.all (e.ok past st n s)
           (λ p h f i. subst (λ (l : List Searched). HasDelivered last p left.lists l m a)
           c.in_ok-delivered.ensures.taken (c.in_ok-deliver.ensures.ok p h f i)) n;

@@ -14,18 +14,12 @@ start_all-started-requires-clause-ready g c κs within = c.requires.ready
 pub index_mut-requires : goal.index_mut-requires
 index_mut-requires g c = let n = c.start_all-started.ensures.finished.1 in omega arith
 
-pub search-requires-clause-ready : goal.search-requires-clause-ready
-search-requires-clause-ready g c = c.requires.ready
-
 pub search-requires-clause-finished : goal.search-requires-clause-finished
 search-requires-clause-finished g c =
     let P : Worker g.row.A.Denot → Type 0 = HasFinished (task_of c.args.round) in
     let n = c.start_all-started.ensures.finished.1 in let l = c.start_all-started.new.workers.ok.0 in
     all_at P c.start_all-started.new.workers.items 1 c.index_mut.result.now c.start_all-started.ensures.finished.0
     (omega arith) c.index_mut.ensures.value
-
-pub join_all-requires-clause-started : goal.join_all-requires-clause-started
-join_all-requires-clause-started g c = c.start_all-started.ensures.started
 
 pub join_all-requires-clause-worked : goal.join_all-requires-clause-worked
 join_all-requires-clause-worked g c =

@@ -4,9 +4,6 @@ use Rattle.pg_round.specs.Workers.{task_of}
 use Rattle.pg_round.proofs.GrowLemmas.{fits_of, below_of, tray_of, completed, finished_of}
 use Rattle.pg_round.proofs.worker.finish.Goals as goal
 
-pub search_one-requires-clause-ready : goal.search_one-requires-clause-ready
-search_one-requires-clause-ready g c = c.requires.ready
-
 pub search_one-requires-clause-number : goal.search_one-requires-clause-number
 search_one-requires-clause-number g c =
     below_of (task_of c.args.round) c.args.worker.now c.in-Some.number c.requires.worked c.in-Some.is

@@ -4,9 +4,6 @@ use Rattle.pg_round.specs.Workers.{task_of}
 use Rattle.pg_round.proofs.GrowLemmas.{grown, work_of, fits_of, finished_of, left_of}
 use Rattle.pg_round.proofs.worker.search.Goals as goal
 
-pub work-requires-clause-ready : goal.work-requires-clause-ready
-work-requires-clause-ready g c = c.requires.ready
-
 pub work-requires-clause-same : goal.work-requires-clause-same
 work-requires-clause-same g c =
     let work = work_of (task_of c.args.round) c.args.worker.now c.requires.finished in (work.0, work.1)

@@ -51,18 +51,3 @@ returns-in_default-search_one g c =
             c.in-Some-draw.ensures.some.2 c.in_default-search_one.ensures.err,
       );
     }
-
-pub draw-requires : goal.draw-requires
-draw-requires g c = c.loop.invariant.2
-
-pub search_one-requires-clause-ready : goal.search_one-requires-clause-ready
-search_one-requires-clause-ready g c = c.requires.ready
-
-pub search_one-requires-clause-number : goal.search_one-requires-clause-number
-search_one-requires-clause-number g c = c.in-Some-draw.ensures.below
-
-pub search_one-requires-clause-tray : goal.search_one-requires-clause-tray
-search_one-requires-clause-tray g c = c.loop.invariant.3
-
-pub search_one-requires-clause-fits : goal.search_one-requires-clause-fits
-search_one-requires-clause-fits g c = c.loop.invariant.4

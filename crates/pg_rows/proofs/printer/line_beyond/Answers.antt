@@ -1,8 +1,8 @@
 use Rattle.std.proofs.Common.{◌≡◌, ◌+◌, ◌-◌, List, [], drop, get_or, ◌∙◌, subst, arith}
 use Rattle.std.proofs.lemmas.List.{drop_more, drop_all}
-use Rattle.pg_lines.specs.Search.{terminator}
+use Rattle.pg_selection.specs.Search.{terminator}
 use Rattle.pg_blocks.specs.Lines.{lines}
-use Rattle.pg_lines.specs.declared.run.Run.{Run}
+use Rattle.pg_selection.specs.declared.run.Run.{Run}
 use Rattle.pg_rows.proofs.BlockLemmas.{no_run}
 use Rattle.pg_rows.proofs.PieceLemmas.{IsCutBehind, cut_start, cut_more, cut_here, cut_last}
 use Rattle.pg_rows.proofs.printer.line_beyond.Goals as goal

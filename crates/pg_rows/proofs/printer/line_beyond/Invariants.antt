@@ -1,5 +1,5 @@
 use Rattle.std.proofs.Common.{◌≡◌, ℕ, ◌-◌, List, drop}
-use Rattle.pg_lines.specs.Search.{Search, terminator}
+use Rattle.pg_selection.specs.Search.{Search, terminator}
 use Rattle.pg_blocks.specs.Lines.{lines}
 use Rattle.pg_rows.specs.Remembered.{HasLines}
 use Rattle.pg_rows.proofs.PieceLemmas.{IsCutBehind}

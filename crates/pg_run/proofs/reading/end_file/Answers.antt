@@ -1,5 +1,4 @@
 use Rattle.std.proofs.Common.{◌∷◌, refl}
-use Rattle.std.proofs.lemmas.Result.{IfOk-from_err}
 use Rattle.pg_seq.specs.Plan.{Ends}
 use Rattle.pg_run.proofs.HoldLemmas.{fails_by}
 use Rattle.pg_run.proofs.ReadingLemmas.{file_ended, ended_breaks}
@@ -17,9 +16,6 @@ flush_ended-requires-clause-holds g c κs within =
     let k = r.2 in
     (r.0, Ends c.args.failed ∷ k.steps, c.end.ensures r.0 k.steps _ (k.holds, (k.running, tt)))
 
-pub returns-in_err-flush_ended-clause-failed : goal.returns-in_err-flush_ended-clause-failed
-returns-in_err-flush_ended-clause-failed g c = IfOk-from_err c.from_residual.result _ c.from_residual.ensures.0
-
 pub returns-in_err-flush_ended-clause-outcome : goal.returns-in_err-flush_ended-clause-outcome
 returns-in_err-flush_ended-clause-outcome g c = λ aim given k.
     let out' = g.W.Sink.stream c.flush_ended.new.out in
@@ -27,10 +23,6 @@ returns-in_err-flush_ended-clause-outcome g c = λ aim given k.
     let ended = c.end.ensures aim k.steps _ (k.holds, (k.running, tt)) in
     fails_by c.from_residual.result _ _ c.from_residual.ensures.1
     (ended_breaks c.args.failed k out' fault (c.in_err-flush_ended.ensures aim _ ended))
-
-pub returns-in_err-send_on-clause-failed : goal.returns-in_err-send_on-clause-failed
-returns-in_err-send_on-clause-failed g c =
-    IfOk-from_err c.from_residual-in_err-send_on.result _ c.from_residual-in_err-send_on.ensures.0
 
 pub returns-in_err-send_on-clause-outcome : goal.returns-in_err-send_on-clause-outcome
 returns-in_err-send_on-clause-outcome g c = λ aim given k.

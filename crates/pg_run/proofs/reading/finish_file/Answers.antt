@@ -1,12 +1,8 @@
-use Rattle.std.proofs.lemmas.Result.{IfOk-from_err}
 use Rattle.pg_run.proofs.HoldLemmas.{fails_by}
 use Rattle.pg_run.proofs.reading.finish_file.Goals as goal
 
 pub search_last-requires-clause-last : goal.search_last-requires-clause-last
 search_last-requires-clause-last g c κs within = c.requires.last
-
-pub returns-in_err-search_last-clause-failed : goal.returns-in_err-search_last-clause-failed
-returns-in_err-search_last-clause-failed g c = IfOk-from_err c.from_residual.result _ c.from_residual.ensures.0
 
 pub returns-in_err-search_last-clause-outcome : goal.returns-in_err-search_last-clause-outcome
 returns-in_err-search_last-clause-outcome g c = λ aim given h.
@@ -16,9 +12,6 @@ pub end_file-requires-clause-may_end : goal.end_file-requires-clause-may_end
 end_file-requires-clause-may_end g c κs within =
     let r = c.requires.last.in_file in
     (r.0, r.1, c.in_ok-search_last.ensures r.0 r.1 r.3)
-
-pub returns-clause-failed : goal.returns-clause-failed
-returns-clause-failed g c = c.end_file.ensures.failed
 
 pub returns-clause-outcome : goal.returns-clause-outcome
 returns-clause-outcome g c = λ aim given h.

@@ -1,13 +1,9 @@
 use Rattle.std.proofs.Common.{◌∙◌, false, true, ap, sym}
-use Rattle.std.proofs.lemmas.Result.{IfOk-from_err}
 use Rattle.pg_base.specs.Entries.{is_failed}
 use Rattle.pg_run.specs.Reading.{ending_after}
 use Rattle.pg_run.proofs.HoldLemmas.{fails_by}
 use Rattle.pg_run.proofs.ReadingLemmas.{may_leave, told_more, refused_last, then_reads}
 use Rattle.pg_run.proofs.reading.read_file.Goals as goal
-
-pub returns-then-enough-clause-reads_on : goal.returns-then-enough-clause-reads_on
-returns-then-enough-clause-reads_on g c = c.loop.invariant.reads_on
 
 pub end_file-requires-clause-may_end : goal.end_file-requires-clause-may_end
 end_file-requires-clause-may_end g c κs within =
@@ -44,10 +40,6 @@ read_once-requires-clause-in_file g c κs within =
 
 pub returns-in_err-read_once-clause-reads_on : goal.returns-in_err-read_once-clause-reads_on
 returns-in_err-read_once-clause-reads_on g c = then_reads c.loop.invariant.reads_on c.in_err-read_once.ensures.reads_on
-
-pub returns-in_err-read_once-clause-told : goal.returns-in_err-read_once-clause-told
-returns-in_err-read_once-clause-told g c =
-    IfOk-from_err c.from_residual-in_err-read_once.result _ c.from_residual-in_err-read_once.ensures.0
 
 pub returns-in_err-read_once-clause-outcome : goal.returns-in_err-read_once-clause-outcome
 returns-in_err-read_once-clause-outcome g c = λ aim start.
@@ -138,12 +130,6 @@ pub settle-requires-clause-in_file : goal.settle-requires-clause-in_file
 settle-requires-clause-in_file g c κs within =
     let r = c.requires.in_file in
     (r.0, _, c.loop.invariant.awaits.1, c.loop.invariant.reads r.0 r.1)
-
-pub returns-in_err-settle-clause-reads_on : goal.returns-in_err-settle-clause-reads_on
-returns-in_err-settle-clause-reads_on g c = c.loop.invariant.reads_on
-
-pub returns-in_err-settle-clause-told : goal.returns-in_err-settle-clause-told
-returns-in_err-settle-clause-told g c = IfOk-from_err c.from_residual.result _ c.from_residual.ensures.0
 
 pub returns-in_err-settle-clause-outcome : goal.returns-in_err-settle-clause-outcome
 returns-in_err-settle-clause-outcome g c = λ aim start.

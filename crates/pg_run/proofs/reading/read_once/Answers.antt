@@ -41,6 +41,3 @@ returns-in_err-search_ready-clause-taken g c = ok_of_err c.from_residual.result 
 
 pub returns-clause-reads_on : goal.returns-clause-reads_on
 returns-clause-reads_on g c = then_reads c.read.ensures.reads_on c.in_ok-search_ready.ensures.reads_on
-
-pub returns-clause-taken : goal.returns-clause-taken
-returns-clause-taken g c = c.in_ok-search_ready.ensures.taken

@@ -19,9 +19,3 @@ returns-in-Some g c = λ aim given h.
 pub returns-in-None : goal.returns-in-None
 returns-in-None g c = λ aim given h.
     none_last h c.args.failed c.requires.last.ended (c.in-None.ensures h.cuts.fed h.cuts.cut)
-
-pub finish-requires : goal.finish-requires
-finish-requires g c = c.requires.last.in_file.2
-
-pub search-requires-clause-room : goal.search-requires-clause-room
-search-requires-clause-room g c = c.requires.last.room

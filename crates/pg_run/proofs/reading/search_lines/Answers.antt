@@ -16,9 +16,6 @@ returns-in_err-make_room-clause-outcome g c = λ given aim h.
     fails_by c.from_residual.result _ _ c.from_residual.ensures.1
     (rest_breaks h c.args.reader.now given out' fault h.cuts (c.in_err-make_room.ensures.outcome aim h.steps h.holds))
 
-pub search-requires-clause-room : goal.search-requires-clause-room
-search-requires-clause-room g c = c.in_ok-make_room.ensures.room
-
 pub search-requires-clause-ready : goal.search-requires-clause-ready
 search-requires-clause-ready g c =
     let r = c.requires.in_file in

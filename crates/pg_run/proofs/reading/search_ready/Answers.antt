@@ -63,9 +63,6 @@ returns-in_err-make_room-clause-reads_on g c = then_reads c.loop.invariant.reads
 pub returns-in_err-make_room-clause-taken : goal.returns-in_err-make_room-clause-taken
 returns-in_err-make_room-clause-taken g c = ok_of_err c.from_residual.result _ c.from_residual.ensures.0
 
-pub search-requires-clause-room : goal.search-requires-clause-room
-search-requires-clause-room g c = c.in_ok-make_room.ensures.room
-
 pub returns-in_err-search-clause-reads_on : goal.returns-in_err-search-clause-reads_on
 returns-in_err-search-clause-reads_on g c = then_reads c.loop.invariant.reads_on c.in_ok-make_room.ensures.reads_on
 

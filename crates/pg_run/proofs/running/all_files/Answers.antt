@@ -6,9 +6,6 @@ use Rattle.pg_run.proofs.HoldLemmas.{fails_by}
 use Rattle.pg_run.proofs.RunLemmas.{between_enough, between_more, ends_at, read_rightly}
 use Rattle.pg_run.proofs.running.all_files.Goals as goal
 
-pub returns-then-enough-clause-same_list : goal.returns-then-enough-clause-same_list
-returns-then-enough-clause-same_list g c = c.loop.invariant.same_list
-
 pub returns-then-enough-clause-outcome : goal.returns-then-enough-clause-outcome
 returns-then-enough-clause-outcome g c = λ aim start.
     let r = c.loop.invariant.rests aim start in

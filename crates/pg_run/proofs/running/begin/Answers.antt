@@ -1,6 +1,5 @@
 use Rattle.std.proofs.Common.{◌∙◌, refl, subst, sym}
-use Rattle.std.proofs.lemmas.Result.{IfOk-from_err}
-use Rattle.pg_lines.specs.Search.{SearchText, AreTreesOf}
+use Rattle.pg_selection.specs.Search.{SearchText, AreTreesOf}
 use Rattle.pg_lines.specs.Queries.{IsQueryFault}
 use Rattle.pg_lines.specs.declared.query.QueryFault.{QueryFault}
 use Rattle.pg_lines.specs.declared.query.QueryFault.TheVariants.{Syntax, TooLarge, OutOfMemory as NoMemoryForQuery}
@@ -20,9 +19,6 @@ query_cause (Syntax fault) text setup is out told = (is, (λ e. cc), refl, refl,
 query_cause TooLarge text setup is out told = (is, (λ e. cc), refl, refl, refl)
 query_cause NoMemoryForQuery text setup is out told = tt
 
-pub returns-in_err-query-clause-holds : goal.returns-in_err-query-clause-holds
-returns-in_err-query-clause-holds g c = IfOk-from_err c.from_residual.result _ c.from_residual.ensures.0
-
 pub returns-in_err-query-clause-trees : goal.returns-in_err-query-clause-trees
 returns-in_err-query-clause-trees g c = ok_of_err c.from_residual.result _ c.from_residual.ensures.0
 
@@ -34,10 +30,6 @@ returns-in_err-query-clause-err g c =
     HasCause fault c.args.text c.args.setup nothing_given out out told told in
     err_by c.from_residual.result P (fault_of_query fault) c.from_residual.ensures.1
     (query_cause fault c.args.text c.args.setup c.in_err-query.ensures.fault)
-
-pub returns-in_err-engine-clause-holds : goal.returns-in_err-engine-clause-holds
-returns-in_err-engine-clause-holds g c =
-    IfOk-from_err c.from_residual-in_err-engine.result _ c.from_residual-in_err-engine.ensures.0
 
 pub returns-in_err-engine-clause-trees : goal.returns-in_err-engine-clause-trees
 returns-in_err-engine-clause-trees g c =

@@ -128,15 +128,3 @@ returns-in_err-open_file-clause-reads_on g c = reads_none
 
 pub read_file-requires-clause-awaits : goal.read_file-requires-clause-awaits
 read_file-requires-clause-awaits g c κs within = c.in_ok-open_file.ensures.awaits
-
-pub returns-in_err-failed-clause-reads_on : goal.returns-in_err-failed-clause-reads_on
-returns-in_err-failed-clause-reads_on g c = c.in_err-failed.ensures.reads_on
-
-pub returns-in_err-tell_fault-clause-reads_on : goal.returns-in_err-tell_fault-clause-reads_on
-returns-in_err-tell_fault-clause-reads_on g c = c.in_ok-failed.ensures.reads_on
-
-pub returns-in_ok-tell_fault-clause-reads_on : goal.returns-in_ok-tell_fault-clause-reads_on
-returns-in_ok-tell_fault-clause-reads_on g c = c.in_ok-failed.ensures.reads_on
-
-pub returns-else-failed-clause-reads_on : goal.returns-else-failed-clause-reads_on
-returns-else-failed-clause-reads_on g c = c.in_ok-failed.ensures.reads_on

@@ -24,9 +24,6 @@ returns-in_err-cutter-clause-ok g c =
     λ aim given out between.
     ok_of_err c.from_residual.result _ c.from_residual.ensures.0
 
-pub open-requires-clause-few : goal.open-requires-clause-few
-open-requires-clause-few g c = c.requires.few
-
 pub returns-clause-awaits : goal.returns-clause-awaits
 returns-clause-awaits g c =
     let r = c.requires.between in

@@ -1,12 +1,9 @@
 use Rattle.std.proofs.Common.{refl}
-use Rattle.std.proofs.lemmas.Result.{IfOk-from_err, MatchResult-weaker}
+use Rattle.std.proofs.lemmas.Result.{MatchResult-weaker}
 use Rattle.pg_run.specs.Outcome.{BreaksOff}
 use Rattle.pg_run.proofs.HoldLemmas.{err_by}
 use Rattle.pg_run.proofs.RunLemmas.{aim_for, between_new, told_new, breaks_first, breaks_for, finishes_for}
 use Rattle.pg_run.proofs.running.run.Goals as goal
-
-pub returns-in_err-engine-clause-ok : goal.returns-in_err-engine-clause-ok
-returns-in_err-engine-clause-ok g c = IfOk-from_err c.from_residual.result _ c.from_residual.ensures.0
 
 pub returns-in_err-engine-clause-err : goal.returns-in_err-engine-clause-err
 returns-in_err-engine-clause-err g c =
@@ -60,6 +57,3 @@ returns-clause-err g c =
     MatchResult-weaker c.search_files.result (c.search_files.ensures.outcome aim
     (between_new c.in_ok-engine.engine aim (c.in_ok-engine.ensures.holds aim spelled refl refl), told_new aim))
     (λ _ _. tt) (λ _ s. s))
-
-pub returns-clause-same_list : goal.returns-clause-same_list
-returns-clause-same_list g c = c.search_files.ensures.same_list

@@ -8,9 +8,6 @@ all_files-requires-clause-new g c κs within = c.requires.new
 pub all_files-requires-clause-rests : goal.all_files-requires-clause-rests
 all_files-requires-clause-rests g c κs within = c.requires.rests
 
-pub returns-in_err-all_files-clause-same_list : goal.returns-in_err-all_files-clause-same_list
-returns-in_err-all_files-clause-same_list g c = c.in_err-all_files.ensures.same_list
-
 pub returns-in_err-all_files-clause-outcome : goal.returns-in_err-all_files-clause-outcome
 returns-in_err-all_files-clause-outcome g c = λ aim start.
     fails_by c.from_residual.result _ _ c.from_residual.ensures.1 (c.in_err-all_files.ensures.outcome aim start)
@@ -21,9 +18,6 @@ finish-requires-clause-holds g c κs within =
     let b = (c.in_ok-all_files.ensures.outcome r.0 r.1).rests.0 in
     (r.0, b.steps, b.holds, b.closed)
 
-pub returns-in_err-status-clause-same_list : goal.returns-in_err-status-clause-same_list
-returns-in_err-status-clause-same_list g c = c.in_ok-all_files.ensures.same_list
-
 pub returns-in_err-status-clause-outcome : goal.returns-in_err-status-clause-outcome
 returns-in_err-status-clause-outcome g c = λ aim start.
     let out' = g.W.Sink.stream c.finish.new.out in
@@ -31,9 +25,6 @@ returns-in_err-status-clause-outcome g c = λ aim start.
     let fault = c.in_err-status.field-0.0 in
     fails_by c.from_residual-in_err-status.result _ _ c.from_residual-in_err-status.ensures.1
     (done_breaks d out' fault (c.in_err-status.ensures aim d.rests.0.steps d.rests.0.holds))
-
-pub returns-clause-same_list : goal.returns-clause-same_list
-returns-clause-same_list g c = c.in_ok-all_files.ensures.same_list
 
 pub returns-clause-outcome : goal.returns-clause-outcome
 returns-clause-outcome g c = λ aim start.

@@ -4,7 +4,6 @@ use Rattle.pg_run.specs.Reading.{HasToldAll, BreaksOffTold}
 use Rattle.pg_run.specs.declared.fault.RunFault.TheVariants.{OutOfMemory}
 use Rattle.pg_run.proofs.HoldLemmas.{on_err_of, fails_by}
 use Rattle.pg_run.proofs.RunLemmas.{between_safe, stops_memory}
-use Rattle.std.proofs.lemmas.Result.{IfOk-from_err}
 use Rattle.pg_run.proofs.running.take_next.Goals as goal
 
 pub returns-in_err-next-clause-outcome : goal.returns-in_err-next-clause-outcome
@@ -47,29 +46,6 @@ returns-in_ok-one_file-in-File-clause-outcome g c = λ aim rests.
     let e = rw c.in-File.is at c.in_ok-next.ensures.ok in
     c.in_ok-one_file-in-File.ensures.outcome (g.F.Files.past c.args.files.now).given (e.0, ap (λ p. p.given) e.1) aim
     rests
-
-pub returns-in_err-next-clause-goes : goal.returns-in_err-next-clause-goes
-returns-in_err-next-clause-goes g c = IfOk-from_err c.from_residual.result _ c.from_residual.ensures.0
-
-pub returns-in_err-next-clause-same_list : goal.returns-in_err-next-clause-same_list
-returns-in_err-next-clause-same_list g c = c.in_err-next.ensures.same_list
-
-pub returns-in-Done-clause-same_list : goal.returns-in-Done-clause-same_list
-returns-in-Done-clause-same_list g c = c.in_ok-next.ensures.same_list
-
-pub returns-in_err-miss-in-Miss-clause-goes : goal.returns-in_err-miss-in-Miss-clause-goes
-returns-in_err-miss-in-Miss-clause-goes g c =
-    IfOk-from_err c.from_residual-in_err-miss-in-Miss.result _ c.from_residual-in_err-miss-in-Miss.ensures.0
-
-pub returns-in_err-miss-in-Miss-clause-same_list : goal.returns-in_err-miss-in-Miss-clause-same_list
-returns-in_err-miss-in-Miss-clause-same_list g c = c.in_ok-next.ensures.same_list
-
-pub returns-in_ok-miss-in-Miss-clause-same_list : goal.returns-in_ok-miss-in-Miss-clause-same_list
-returns-in_ok-miss-in-Miss-clause-same_list g c = c.in_ok-next.ensures.same_list
-
-pub returns-in_err-one_file-in-File-clause-goes : goal.returns-in_err-one_file-in-File-clause-goes
-returns-in_err-one_file-in-File-clause-goes g c =
-    IfOk-from_err c.from_residual-in_err-one_file-in-File.result _ c.from_residual-in_err-one_file-in-File.ensures.0
 
 pub returns-in_err-one_file-in-File-clause-same_list : goal.returns-in_err-one_file-in-File-clause-same_list
 returns-in_err-one_file-in-File-clause-same_list g c =
@@ -116,9 +92,6 @@ returns-in_err-miss-in-Miss-clause-outcome g c = λ aim rests.
     fails_by c.from_residual-in_err-miss-in-Miss.result _ _ c.from_residual-in_err-miss-in-Miss.ensures.1
     (subst P (sym (is ∙ ap (λ n. NoFile n c.in-Miss.cause ∷ given) (sym named)))
     (c.in_err-miss-in-Miss.ensures given aim rests))
-
-pub next-requires : goal.next-requires
-next-requires g c = c.requires.done
 
 pub returns-in_err-next-clause-went : goal.returns-in_err-next-clause-went
 returns-in_err-next-clause-went g c =

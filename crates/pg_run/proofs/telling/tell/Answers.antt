@@ -7,6 +7,3 @@ pub returns-in-Ok : goal.returns-in-Ok
 returns-in-Ok g c =
     writes_as c.as_slice.result.now (flat_map (λ part. part.now) c.args.parts.now) _ _ _
     (c.as_slice.ensures.value ∙ c.in-Ok.ensures) c.write_all.ensures.writes
-
-pub returns-in-Err : goal.returns-in-Err
-returns-in-Err g c = c.write_each.ensures

@@ -1,4 +1,4 @@
-use Rattle.pg_lines.specs.Search.{terminator}
+use Rattle.pg_selection.specs.Search.{terminator}
 use Rattle.pg_seq.specs.History.{plan}
 use Rattle.pg_seq.proofs.ArrivalLaws.{first_is_taken}
 use Rattle.pg_seq.proofs.BeginLemmas.{shape_of}

@@ -1,4 +1,4 @@
-use Rattle.pg_lines.specs.Search.{terminator}
+use Rattle.pg_selection.specs.Search.{terminator}
 use Rattle.pg_seq.specs.History.{plan}
 use Rattle.pg_seq.proofs.BeginLemmas.{handed_begins, shape_of}
 use Rattle.pg_seq.proofs.laws.handed_out_begins.Goals as goal

@@ -3,7 +3,6 @@ use Rattle.pg_pattern.specs.Trees.{pattern}
 use Rattle.pg_syntax.specs.Slices.{bytes_of}
 use Rattle.pg_syntax.proofs.ListLemmas.{trees-more, memory-refused, first-refused}
 use Rattle.std.proofs.lemmas.List.{length-map}
-use Rattle.std.proofs.lemmas.Result.{IfOk-from_err}
 use Rattle.pg_syntax.proofs.list.parse_texts.Goals as goal
 use Rattle.pg_syntax.proofs.list.parse_texts.Goals.{in-OutOfMemory, in_default}
 
@@ -27,6 +26,3 @@ loop-text-preserved g c =
     trees-more c.args.kind c.args.fold c.args.texts.now c.loop-text.text-index _ c.loop-text.trees.items
     c.push.new.self.items c.in-Ok.tree c.loop-text-test.true c.in_ok-push-in-Ok.ensures.items
     c.loop-text.invariant c.in-Ok.ensures.spelled
-
-pub returns-in_err-push-in-Ok-clause-spelled : goal.returns-in_err-push-in-Ok-clause-spelled
-returns-in_err-push-in-Ok-clause-spelled g c = IfOk-from_err c.from_residual.result _ c.from_residual.ensures.0

@@ -1,6 +1,6 @@
 use Rattle.std.proofs.Common.{◌≡◌, ◌≤◌, ◌-◌, ◌++◌, length, drop}
 use Rattle.pg_syntax.specs.PatternLists.{split}
-use Rattle.pg_syntax.specs.Lines.{lines}
+use Rattle.pg_bytes.specs.Lines.{lines}
 use Rattle.pg_syntax.specs.Slices.{bytes_of}
 use Rattle.pg_syntax.proofs.list.push_ended.Given as goal
 

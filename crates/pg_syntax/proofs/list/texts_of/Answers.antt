@@ -1,6 +1,5 @@
 use Rattle.std.proofs.Common.{◌++◌, map, take, sym, ap, ◌∙◌, arith}
 use Rattle.std.proofs.lemmas.List.{take_all}
-use Rattle.std.proofs.lemmas.Result.{IfOk-from_err}
 use Rattle.pg_syntax.specs.Memory.{patterns_of}
 use Rattle.pg_syntax.specs.PatternLists.{patterns, patterns_in}
 use Rattle.pg_syntax.proofs.ListLemmas.{patterns-push, take-push, map-push}
@@ -20,12 +19,6 @@ loop-list-preserved g c =
 
 pub loop-list-init : goal.loop-list-init
 loop-list-init g c = ap bytes_of c.new-texts.ensures.items
-
-pub offset_bounds-lists-list-index : goal.offset_bounds-lists-list-index
-offset_bounds-lists-list-index g c = c.loop-list.auto.list-index-end
-
-pub returns-in_err-push_texts : goal.returns-in_err-push_texts
-returns-in_err-push_texts g c = IfOk-from_err c.from_residual.result _ c.from_residual.ensures.0
 
 pub returns : goal.returns
 returns g c =

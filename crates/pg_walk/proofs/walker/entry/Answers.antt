@@ -138,6 +138,3 @@ pub returns-then-branch-clause-within : goal.returns-then-branch-clause-within
 returns-then-branch-clause-within g c = λ r.
     let path = string_bytes c.args.path in
     entry_leaf_within r path (Fault path InCircle) (spots_in c.args.waiting.now.items) refl
-
-pub returns-else-branch-clause-within : goal.returns-else-branch-clause-within
-returns-else-branch-clause-within g c = c.inside.ensures.within

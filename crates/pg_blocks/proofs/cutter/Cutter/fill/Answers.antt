@@ -70,9 +70,6 @@ returns-in_err-take_in-clause-same g c = on_err _ c.from_residual-in_err-take_in
 
 -- the bytes of the room are taken
 
-pub take_in-requires-clause-within : goal.take_in-requires-clause-within
-take_in-requires-clause-within g c = c.requires
-
 pub take_in-requires-clause-goes_on : goal.take_in-requires-clause-goes_on
 take_in-requires-clause-goes_on g c =
     let self = c.args.self.now in

@@ -46,9 +46,3 @@ returns-then-piece-self-clause-line g c =
       λ e. absurd (file_not_line e),
       λ h. absurd (not_over h.0 (file_over s.total refl c.if-piece-self.true)),
     )
-
-pub line_after-requires : goal.line_after-requires
-line_after-requires g c = c.args.self.now.line_fits
-
-pub overflow_sub-self : goal.overflow_sub-self
-overflow_sub-self g c = c.args.self.now.few

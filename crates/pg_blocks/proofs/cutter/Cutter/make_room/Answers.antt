@@ -49,6 +49,3 @@ returns-clause-some g c =
     let new = c.resize.new.self in
     room_made c.resize.result c.take_spare.new.self.filled c.buffer_len-len.result new.len _ new.items new.ok.0
     c.buffer_len-len.ensures c.resize.ensures.len
-
-pub returns-then-len-clause-keeps : goal.returns-then-len-clause-keeps
-returns-then-len-clause-keeps g c = c.take_spare.ensures

@@ -28,6 +28,3 @@ returns-clause-stands g c =
       short = search rules;
       line = refl;
     }
-
-pub returns-clause-drained : goal.returns-clause-drained
-returns-clause-drained g c = c.new.ensures.items

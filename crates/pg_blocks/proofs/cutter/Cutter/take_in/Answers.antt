@@ -67,9 +67,6 @@ returns-in_err-blocks-clause-same g c =
     let room = ap (drop c.args.self.now.filled) c.in_err-blocks.ensures.err.0 in
     on_err _ c.from_residual.result room
 
-pub cut_filled-requires-clause-size : goal.cut_filled-requires-clause-size
-cut_filled-requires-clause-size g c = c.args.self.now.sized
-
 pub cut_filled-requires-clause-number : goal.cut_filled-requires-clause-number
 cut_filled-requires-clause-number g c =
     let self = c.args.self.now in
@@ -78,9 +75,6 @@ cut_filled-requires-clause-number g c =
 
 pub cut_filled-requires-clause-within : goal.cut_filled-requires-clause-within
 cut_filled-requires-clause-within g c = piece_within c.args.self.now.rest.items c.args.self.now.within c.requires.within
-
-pub cut_filled-requires-clause-unfinished : goal.cut_filled-requires-clause-unfinished
-cut_filled-requires-clause-unfinished g c = c.args.self.now.unfinished
 
 pub overflow_add-self : goal.overflow_add-self
 overflow_add-self g c =

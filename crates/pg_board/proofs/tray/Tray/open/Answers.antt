@@ -1,5 +1,4 @@
 use Rattle.std.proofs.Common.{◌≡◌, ℕ, ◌+◌, List, [], ◌∷◌, ◌++◌, replicate, vec_len, ap, ◌∙◌, sym, arith}
-use Rattle.std.proofs.lemmas.Result.{IfOk-from_err}
 use Rattle.crossbeam_queue.specs.SegTies.{SegId}
 use Rattle.pg_board.specs.declared.puts.PassView.{PassView}
 use Rattle.pg_board.specs.Tray.{PutView, put_view}
@@ -37,23 +36,6 @@ loop-number-preserved g c =
           ∙ ap (λ (l : List (PutView T A)). l ++ fresh ∷ []) i.items ∙ copies_more n fresh
           ∙ ap (λ (k : ℕ). replicate k fresh) (sym pushed.len);
     }
-
-pub returns-in_err-passes-clause-passes : goal.returns-in_err-passes-clause-passes
-returns-in_err-passes-clause-passes g c = IfOk-from_err c.from_residual.result _ c.from_residual.ensures.0
-
-pub returns-in_err-passes-clause-take : goal.returns-in_err-passes-clause-take
-returns-in_err-passes-clause-take g c = IfOk-from_err c.from_residual.result _ c.from_residual.ensures.0
-
-pub returns-in_err-queue-clause-passes : goal.returns-in_err-queue-clause-passes
-returns-in_err-queue-clause-passes g c =
-    IfOk-from_err c.from_residual-in_err-queue.result _ c.from_residual-in_err-queue.ensures.0
-
-pub returns-in_err-queue-clause-take : goal.returns-in_err-queue-clause-take
-returns-in_err-queue-clause-take g c =
-    IfOk-from_err c.from_residual-in_err-queue.result _ c.from_residual-in_err-queue.ensures.0
-
-pub another-new-requires-clause-queue : goal.another-new-requires-clause-queue
-another-new-requires-clause-queue g c = c.loop-number.invariant.ticket
 
 pub invariant_of-result : goal.invariant_of-result
 invariant_of-result g c =

@@ -24,12 +24,6 @@ returns-clause-same_list g c =
     (read_behind (string_bytes c.args.self.now.input_name) c.read.new.into asked past past' c.read.result
     c.requires.reading c.read.ensures.given)
 
-pub read-requires : goal.read-requires
-read-requires g c = c.requires.room
-
-pub returns-clause-size : goal.returns-clause-size
-returns-clause-size g c = c.read.ensures.size
-
 pub invariant_of-self : goal.invariant_of-self
 invariant_of-self g c =
     let items = asked_for c.args.self.now.walk.asked.items in

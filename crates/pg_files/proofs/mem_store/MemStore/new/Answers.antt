@@ -7,6 +7,3 @@ invariant_of-result c = record { some_bytes = omega arith }
 
 pub returns-clause-files : goal.returns-clause-files
 returns-clause-files c = ap (map stored) c.new.ensures.items
-
-pub returns-clause-past : goal.returns-clause-past
-returns-clause-past c = c.new-2.ensures

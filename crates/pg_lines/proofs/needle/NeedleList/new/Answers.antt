@@ -1,4 +1,3 @@
-use Rattle.std.proofs.lemmas.Result.{IfOk-from_err}
 use Rattle.std.proofs.Common.{◌++◌, ◌∷◌, [], map, take, sym, ap, ◌∙◌, subst}
 use Rattle.std.specs.List.{All}
 use Rattle.std.proofs.lemmas.List.{map-append, map_more}
@@ -26,12 +25,3 @@ loop-literal-preserved g c =
       ahead = subst (λ ns. All Ahead ns) (sym joins)
           (All-push Ahead needles one c.loop-literal.invariant.ahead c.new.ensures.ahead);
     }
-
-pub returns-in_err-push-clause-searched : goal.returns-in_err-push-clause-searched
-returns-in_err-push-clause-searched g c = IfOk-from_err c.from_residual.result _ c.from_residual.ensures.0
-
-pub returns-in_err-push-clause-literals : goal.returns-in_err-push-clause-literals
-returns-in_err-push-clause-literals g c = IfOk-from_err c.from_residual.result _ c.from_residual.ensures.0
-
-pub returns-in_err-push-clause-ahead : goal.returns-in_err-push-clause-ahead
-returns-in_err-push-clause-ahead g c = IfOk-from_err c.from_residual.result _ c.from_residual.ensures.0

@@ -4,7 +4,7 @@ use Rattle.std.proofs.lemmas.Bool.{eqb-false}
 use Rattle.std.proofs.lemmas.List.{take_rest}
 use Rattle.pg_blocks.specs.Lines.{IsLine}
 use Rattle.pg_lines.specs.Literals.{LiteralData}
-use Rattle.pg_lines.specs.Search.{terminator_of}
+use Rattle.pg_selection.specs.Search.{terminator_of}
 use Rattle.pg_lines.proofs.NeedleLemmas.{nowhere_further, next_found, plain_end, needles_moved}
 use Rattle.pg_lines.proofs.needle.NeedleList.next_line.Goals as goal
 
@@ -56,9 +56,6 @@ returns-clause-some g c =
     (omega (arith, ne)) in
     line.0
 
-pub returns-then-is_empty-clause-needles : goal.returns-then-is_empty-clause-needles
-returns-then-is_empty-clause-needles g c = c.requires.needles
-
 pub returns-then-is_empty-clause-literals : goal.returns-then-is_empty-clause-literals
 returns-then-is_empty-clause-literals g c = refl
 
@@ -68,16 +65,10 @@ returns-then-is_empty-clause-within g c = tt
 pub returns-then-is_empty-clause-some : goal.returns-then-is_empty-clause-some
 returns-then-is_empty-clause-some g c = tt
 
-pub advance-requires-clause-ahead : goal.advance-requires-clause-ahead
-advance-requires-clause-ahead g c = c.requires.needles.ahead
-
 pub returns-in_default-clause-needles : goal.returns-in_default-clause-needles
 returns-in_default-clause-needles g c =
     needles_moved c.args.query.now.text c.args.bytes.now c.args.at c.args.self.now c.advance.new.self c.requires.needles
     c.requires.some c.advance.ensures.searched c.advance.ensures.literals c.advance.ensures.ahead
-
-pub returns-in_default-clause-literals : goal.returns-in_default-clause-literals
-returns-in_default-clause-literals g c = c.advance.ensures.literals
 
 pub returns-in_default-clause-within : goal.returns-in_default-clause-within
 returns-in_default-clause-within g c = tt
@@ -89,9 +80,6 @@ pub returns-clause-needles : goal.returns-clause-needles
 returns-clause-needles g c =
     needles_moved c.args.query.now.text c.args.bytes.now c.args.at c.args.self.now c.advance.new.self c.requires.needles
     c.requires.some c.advance.ensures.searched c.advance.ensures.literals c.advance.ensures.ahead
-
-pub returns-clause-literals : goal.returns-clause-literals
-returns-clause-literals g c = c.advance.ensures.literals
 
 pub returns-clause-none : goal.returns-clause-none
 returns-clause-none g c = tt

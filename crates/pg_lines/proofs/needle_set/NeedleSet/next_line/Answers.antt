@@ -2,7 +2,7 @@ use Rattle.std.proofs.Common.{◌-◌, ◌<◌, length, take, drop, sym, ap, ◌
 use Rattle.std.proofs.lemmas.Bool.{eqb-false}
 use Rattle.std.proofs.lemmas.List.{take_rest}
 use Rattle.pg_strings.specs.Outcomes.{strings_of}
-use Rattle.pg_lines.specs.Search.{terminator_of}
+use Rattle.pg_selection.specs.Search.{terminator_of}
 use Rattle.pg_lines.proofs.NeedleLemmas.{plain_end}
 use Rattle.pg_lines.proofs.NeedleSetLemmas.{nowhere_behind, line_of_first}
 use Rattle.pg_lines.proofs.needle_set.NeedleSet.next_line.Goals as goal

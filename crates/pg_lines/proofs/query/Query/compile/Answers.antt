@@ -1,9 +1,11 @@
-use Rattle.std.proofs.lemmas.Result.{IfOk-from_err}
+use Rattle.std.specs.Option.{IfSome}
 use Rattle.std.proofs.Common.{◌≡◌, ◌<◌, length, List, map, sym, ap, subst, inl, inr, arith}
 use Rattle.pg_literal.specs.declared.literal.Literal.{Literal}
 use Rattle.pg_literal.specs.Literals.{as_searched}
 use Rattle.pg_lines.specs.Literals.{AreLiterals, TellHeads, data_of}
-use Rattle.pg_lines.specs.Search.{Fixed, patterns}
+use Rattle.pg_lines.specs.Queries.{IsCompiled}
+use Rattle.pg_lines.specs.Strings.{IsSetOf}
+use Rattle.pg_selection.specs.Search.{SearchText, Fixed, patterns}
 use Rattle.pg_lines.proofs.LiteralLemmas.{no_literals}
 use Rattle.pg_lines.proofs.NeedleSetLemmas.{prepared_are, set_is}
 use Rattle.pg_lines.proofs.query.Query.compile.Goals as goal
@@ -19,7 +21,12 @@ invariant_of-result g c =
     let Exact : List (Literal g.row.A.Denot) → Type 0 = λ ls. text.kind ≡ Fixed → 0 < length ls
     → map (λ l. l.text.items) ls ≡ map (as_searched text.fold) (patterns text.lists) in
     let exact = subst Exact (sym c.deref.ensures.value) c.in_ok-literals.ensures.fixed in
-    let seen = subst Are (sym c.deref.ensures.value) are in (
+    let seen = subst Are (sym c.deref.ensures.value) are in
+    let machine = c.in_ok-machine.machine in
+    let set = c.in_ok-literal_set.literal_set in
+    let Fits : SearchText → Type 0 = λ t. IsCompiled (record { text = t; machine = machine })
+    × AreLiterals t (map data_of few) × TellHeads t few × IfSome set (IsSetOf t) in
+    subst Fits (sym c.in_ok-selector.ensures) (
       c.in_ok-machine.ensures.machine,
       elim c.few_of.ensures [
         | inl same ↦ subst Are (sym (ap (λ v. v.items) same)) are
@@ -35,24 +42,7 @@ invariant_of-result g c =
           c.in_ok-literal_set.ensures.strings c.in_ok-literal_set.ensures.enough),
     )
 
-pub returns-in_err-trees-clause-text : goal.returns-in_err-trees-clause-text
-returns-in_err-trees-clause-text g c = IfOk-from_err c.from_residual.result _ c.from_residual.ensures.0
-
-pub returns-in_err-trees-clause-compiled : goal.returns-in_err-trees-clause-compiled
-returns-in_err-trees-clause-compiled g c = IfOk-from_err c.from_residual.result _ c.from_residual.ensures.0
-
-pub returns-in_err-machine-clause-text : goal.returns-in_err-machine-clause-text
-returns-in_err-machine-clause-text g c =
-    IfOk-from_err c.from_residual-in_err-machine.result _ c.from_residual-in_err-machine.ensures.0
-
-pub returns-in_err-machine-clause-compiled : goal.returns-in_err-machine-clause-compiled
-returns-in_err-machine-clause-compiled g c =
-    IfOk-from_err c.from_residual-in_err-machine.result _ c.from_residual-in_err-machine.ensures.0
-
-pub returns-in_err-literals-clause-text : goal.returns-in_err-literals-clause-text
-returns-in_err-literals-clause-text g c =
-    IfOk-from_err c.from_residual-in_err-literals.result _ c.from_residual-in_err-literals.ensures.0
-
-pub returns-in_err-literals-clause-compiled : goal.returns-in_err-literals-clause-compiled
-returns-in_err-literals-clause-compiled g c =
-    IfOk-from_err c.from_residual-in_err-literals.result _ c.from_residual-in_err-literals.ensures.0
+pub returns-clause-compiled : goal.returns-clause-compiled
+returns-clause-compiled g c =
+    let P : SearchText → Type 0 = λ t. IsCompiled (record { text = t; machine = c.in_ok-machine.machine }) in
+    subst P (sym c.in_ok-selector.ensures) c.in_ok-machine.ensures.machine

@@ -1,6 +1,6 @@
 use Rattle.std.proofs.Common.{ℕ, List, ap, ◌∙◌, subst}
 use Rattle.pg_strings.specs.Outcomes.{strings_of}
-use Rattle.pg_lines.specs.Search.{Bounds, bounds_of}
+use Rattle.pg_selection.specs.Search.{Bounds, bounds_of}
 use Rattle.pg_lines.specs.Strings.{FindsString, FindsPart}
 use Rattle.pg_lines.proofs.JudgeLemmas.{if_some_more}
 use Rattle.pg_lines.proofs.StringLemmas.{found_part}

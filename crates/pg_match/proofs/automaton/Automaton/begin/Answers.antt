@@ -6,26 +6,17 @@ use Rattle.pg_match.proofs.automaton.Automaton.begin.Goals as goal
 pub overflow_add-sets : goal.overflow_add-sets
 overflow_add-sets g c = omega arith
 
-pub insert-requires-clause-good : goal.insert-requires-clause-good
-insert-requires-clause-good g c = c.clear.ensures.good
-
 pub insert-requires-clause-within : goal.insert-requires-clause-within
 insert-requires-clause-within g c = omega arith
 
 pub insert-requires-clause-some : goal.insert-requires-clause-some
 insert-requires-clause-some g c = omega arith
 
-pub close-requires-clause-good : goal.close-requires-clause-good
-close-requires-clause-good g c = c.insert.ensures.inserted.good
-
 pub close-requires-clause-size : goal.close-requires-clause-size
 close-requires-clause-size g c = omega arith
 
-pub clear-requires : goal.clear-requires
-clear-requires g c = c.requires.room.now
-
 pub close-requires-clause-tidy : goal.close-requires-clause-tidy
-close-requires-clause-tidy g c = rw c.deref.ensures.value c.requires.runs.tidy
+close-requires-clause-tidy g c = rw c.deref.ensures.value c.requires.built.runs.tidy
 
 pub returns-clause-visits : goal.returns-clause-visits
 returns-clause-visits g c = refl

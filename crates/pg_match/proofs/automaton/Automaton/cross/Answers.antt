@@ -15,7 +15,7 @@ returns-in-Hit-clause-crossed g c = (
       let cursor = c.args.cursor in
       let here = c.requires.cursor in
       run_before (nfa c.args.self.now) c.args.line.now cursor.from cursor.place _
-      (In (remembered c.args.memory.now) (cursor.state / 256)) here.stands c.requires.runs
+      (In (remembered c.args.memory.now) (cursor.state / 256)) here.stands c.requires.built.runs
       (slice_get-get_or c.args.line.now cursor.place 0 here.within) here.within c.in-Hit.ensures.learned,
   λ run. refl,
 )
@@ -45,7 +45,7 @@ returns-in-Row-clause-crossed g c =
         stands = stands_next (nfa c.args.self.now) l cursor.from cursor.place _
             (In (remembered c.args.memory.now) (cursor.state / 256))
             (In (remembered c.learn.new.memory) (c.in-Row.state / 256))
-            (slice_get-get_or l cursor.place 0 here.within) here.within here.stands learned.2 here.near c.requires.runs
+            (slice_get-get_or l cursor.place 0 here.within) here.within here.stands learned.2 here.near c.requires.built.runs
             learned.1;
       },
       (λ run. run, λ run. run),
@@ -60,9 +60,9 @@ go_without-requires-clause-stands g c =
     let here = c.requires.cursor in
     let learned = c.in-Lost.ensures.learned in
     let U = Has (members c.learn.new.sets.current) in
-    stands_whole m c.args.self.now.seeds.items c.requires.seeds l from (p + 1) U (omega arith) here.near
+    stands_whole m c.args.self.now.seeds.items c.requires.built.seeds l from (p + 1) U (omega arith) here.near
     (stands_next m l from p _ (In (remembered c.args.memory.now) (c.args.cursor.state / 256)) U
-    (slice_get-get_or l p 0 here.within) here.within here.stands learned.1 here.near c.requires.runs learned.0)
+    (slice_get-get_or l p 0 here.within) here.within here.stands learned.1 here.near c.requires.built.runs learned.0)
 
 pub returns-in-Hit-clause-visits : goal.returns-in-Hit-clause-visits
 returns-in-Hit-clause-visits g c =
@@ -114,9 +114,6 @@ index-requires g c =
     (get_or c.args.line.now c.args.cursor.place 0) c.requires.memory c.requires.cursor.row
     (c.type_inv.line c.args.cursor.place).fits in
     omega (arith, inside, size)
-
-pub learn-requires-clause-known : goal.learn-requires-clause-known
-learn-requires-clause-known g c = c.requires.cursor.row.known
 
 pub overflow_cast-cursor-2 : goal.overflow_cast-cursor-2
 overflow_cast-cursor-2 g c = record {

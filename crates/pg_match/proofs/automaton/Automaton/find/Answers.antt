@@ -55,7 +55,7 @@ loop-place-preserved g c =
     let best = c.judge-best.result in
     let short : p < 2 ^ 31 = omega arith in
     let n : ℕ = length m.states in
-    let both = settled m l c.args.from p s c.loop-place.best c.requires.runs c.loop-place.invariant.search best
+    let both = settled m l c.args.from p s c.loop-place.best c.requires.built.runs c.loop-place.invariant.search best
     (c.judge-best.ensures ∙ ap (λ k. judged p k c.loop-place.best) c.ending.ensures) in
     let room = c.advance.ensures.room in
     let fewer = few v.current room.now in
@@ -74,9 +74,9 @@ returns-then-is_over-clause-best g c =
     let p = c.loop-place.place in
     let s = buffers c.loop-place.sets in
     let best = c.judge-best.result in
-    let both = settled m l c.args.from p s c.loop-place.best c.requires.runs c.loop-place.invariant.search best
+    let both = settled m l c.args.from p s c.loop-place.best c.requires.built.runs c.loop-place.invariant.search best
     (c.judge-best.ensures ∙ ap (λ k. judged p k c.loop-place.best) c.ending.ensures) in
-    search_over m l c.args.from p s.current best c.requires.runs both.0 both.1 (c.is_over.ensures (cc))
+    search_over m l c.args.from p s.current best c.requires.built.runs both.0 both.1 (c.is_over.ensures (cc))
     (omega arith) (cc)
 
 pub returns-clause-best : goal.returns-clause-best
@@ -86,5 +86,5 @@ returns-clause-best g c =
     let end : c.loop-place.place ≡ length l = omega arith in
     let search = subst (λ p. Searching m l c.args.from p (buffers c.loop-place.sets) c.loop-place.best) end
     c.loop-place.invariant.search in
-    (settled m l c.args.from (length l) (buffers c.loop-place.sets) c.loop-place.best c.requires.runs search
+    (settled m l c.args.from (length l) (buffers c.loop-place.sets) c.loop-place.best c.requires.built.runs search
     c.judge.result (c.judge.ensures ∙ ap (λ k. judged (length l) k c.loop-place.best) c.ending-2.ensures)).1

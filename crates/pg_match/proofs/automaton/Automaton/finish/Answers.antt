@@ -37,7 +37,7 @@ returns-in-Lost-clause-visits g c =
 pub returns-in-Hit-clause-finishes : goal.returns-in-Hit-clause-finishes
 returns-in-Hit-clause-finishes g c =
     finishes_hit (nfa c.args.self.now) c.args.byte
-    (In (remembered c.args.memory.now) (c.args.state / 256)) c.requires.runs c.in-Hit.ensures.learned
+    (In (remembered c.args.memory.now) (c.args.state / 256)) c.requires.built.runs c.in-Hit.ensures.learned
 
 pub returns-in-Row-clause-memory : goal.returns-in-Row-clause-memory
 returns-in-Row-clause-memory g c =
@@ -59,14 +59,14 @@ returns-in-Row-clause-finishes g c =
     let k = c.in-Row.to / 256 in
     let learned = c.in-Row.ensures.learned in
     finishes_end m c.args.byte (In (remembered c.args.memory.now) (c.args.state / 256))
-    (In mid k) c.hits_at_end-answer.result c.requires.runs learned.1 learned.2
+    (In mid k) c.hits_at_end-answer.result c.requires.built.runs learned.1 learned.2
     (answers_same m false (Has u) (In mid k) c.hits_at_end-answer.result learned.3 c.hits_at_end-answer.ensures.answer)
 
 pub returns-in-Lost-clause-finishes : goal.returns-in-Lost-clause-finishes
 returns-in-Lost-clause-finishes g c =
     let learned = c.in-Lost.ensures.learned in
     finishes_end (nfa c.args.self.now) c.args.byte (In (remembered c.args.memory.now) (c.args.state / 256))
-    (Has (members c.learn.new.sets.current)) _ c.requires.runs
+    (Has (members c.learn.new.sets.current)) _ c.requires.built.runs
     learned.0 learned.1 c.hits_at_end.ensures.answer
 
 pub overflow_cast-state : goal.overflow_cast-state
@@ -75,35 +75,8 @@ overflow_cast-state g c = omega arith
 pub overflow_cast-to : goal.overflow_cast-to
 overflow_cast-to g c = omega arith
 
-pub recall_end-requires-clause-runs : goal.recall_end-requires-clause-runs
-recall_end-requires-clause-runs g c = c.requires.runs
-
-pub recall_end-requires-clause-memory : goal.recall_end-requires-clause-memory
-recall_end-requires-clause-memory g c = c.requires.memory
-
-pub recall_end-requires-clause-row : goal.recall_end-requires-clause-row
-recall_end-requires-clause-row g c = c.requires.row
-
-pub returns-in-Some-clause-room : goal.returns-in-Some-clause-room
-returns-in-Some-clause-room g c = c.requires.room
-
-pub returns-in-Some-clause-memory : goal.returns-in-Some-clause-memory
-returns-in-Some-clause-memory g c = c.requires.memory
-
-pub returns-in-Some-clause-finishes : goal.returns-in-Some-clause-finishes
-returns-in-Some-clause-finishes g c = c.in-Some.ensures
-
 pub returns-in-Some-clause-visits : goal.returns-in-Some-clause-visits
 returns-in-Some-clause-visits g c = omega arith
-
-pub learn-requires-clause-runs : goal.learn-requires-clause-runs
-learn-requires-clause-runs g c = c.requires.runs
-
-pub learn-requires-clause-room : goal.learn-requires-clause-room
-learn-requires-clause-room g c = c.requires.room
-
-pub learn-requires-clause-memory : goal.learn-requires-clause-memory
-learn-requires-clause-memory g c = c.requires.memory
 
 pub learn-requires-clause-known : goal.learn-requires-clause-known
 learn-requires-clause-known g c = omega arith
@@ -114,35 +87,8 @@ learn-requires-clause-some g c = omega arith
 pub learn-requires-clause-visits : goal.learn-requires-clause-visits
 learn-requires-clause-visits g c = omega arith
 
-pub hits_at_end-answer-requires-clause-runs : goal.hits_at_end-answer-requires-clause-runs
-hits_at_end-answer-requires-clause-runs g c = c.requires.runs
-
-pub hits_at_end-answer-requires-clause-room : goal.hits_at_end-answer-requires-clause-room
-hits_at_end-answer-requires-clause-room g c = c.learn.ensures.room
-
 pub mark_end-requires-clause-size : goal.mark_end-requires-clause-size
 mark_end-requires-clause-size g c = omega arith
-
-pub hits_at_end-requires-clause-runs : goal.hits_at_end-requires-clause-runs
-hits_at_end-requires-clause-runs g c = c.requires.runs
-
-pub hits_at_end-requires-clause-room : goal.hits_at_end-requires-clause-room
-hits_at_end-requires-clause-room g c = c.learn.ensures.room
-
-pub returns-in-Hit-clause-room : goal.returns-in-Hit-clause-room
-returns-in-Hit-clause-room g c = c.learn.ensures.room
-
-pub returns-in-Hit-clause-memory : goal.returns-in-Hit-clause-memory
-returns-in-Hit-clause-memory g c = c.learn.ensures.memory
-
-pub returns-in-Row-clause-room : goal.returns-in-Row-clause-room
-returns-in-Row-clause-room g c = c.hits_at_end-answer.ensures.room
-
-pub returns-in-Lost-clause-room : goal.returns-in-Lost-clause-room
-returns-in-Lost-clause-room g c = c.hits_at_end.ensures.room
-
-pub returns-in-Lost-clause-memory : goal.returns-in-Lost-clause-memory
-returns-in-Lost-clause-memory g c = c.learn.ensures.memory
 
 pub mark_end-requires-clause-row : goal.mark_end-requires-clause-row
 mark_end-requires-clause-row g c = omega (arith, c.in-Row.ensures.learned.0.known, c.learn.ensures.memory.shape.few)

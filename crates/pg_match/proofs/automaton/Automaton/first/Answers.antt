@@ -36,9 +36,6 @@ returns-clause-memory g c =
     (λ f. ap remembered (c.add.ensures.full f))
     (λ z. c.begin.ensures.starts)
 
-pub returns-then-memory-gt0-clause-room : goal.returns-then-memory-gt0-clause-room
-returns-then-memory-gt0-clause-room g c = c.requires.room
-
 pub returns-then-memory-gt0-clause-visits : goal.returns-then-memory-gt0-clause-visits
 returns-then-memory-gt0-clause-visits g c = at_most c.args.sets.now.visits _
 
@@ -48,20 +45,8 @@ returns-then-memory-gt0-clause-some g c = λ _. c.if-memory-gt0.true
 pub returns-then-memory-gt0-clause-full : goal.returns-then-memory-gt0-clause-full
 returns-then-memory-gt0-clause-full g c = λ h. absurd (true≢false h)
 
-pub begin-requires-clause-runs : goal.begin-requires-clause-runs
-begin-requires-clause-runs g c = c.requires.runs
-
-pub begin-requires-clause-room : goal.begin-requires-clause-room
-begin-requires-clause-room g c = c.requires.room
-
 pub begin-requires-clause-visits : goal.begin-requires-clause-visits
 begin-requires-clause-visits g c = below_more c.args.sets.now.visits c.requires.visits
-
-pub add-requires-clause-good : goal.add-requires-clause-good
-add-requires-clause-good g c = c.begin.ensures.room.now
-
-pub returns-clause-room : goal.returns-clause-room
-returns-clause-room g c = c.begin.ensures.room
 
 pub returns-clause-visits : goal.returns-clause-visits
 returns-clause-visits g c =

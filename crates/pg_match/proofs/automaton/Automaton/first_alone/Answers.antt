@@ -25,7 +25,7 @@ returns-clause-memory g c =
     let s = members begun.new.sets.current in
     let mark_0 = c.index.result.now in
     let flag = not (eqb mark_0 0) in
-    let some = c.requires.runs.start in
+    let some = c.requires.built.runs.start in
     let size = begun.ensures.room.now_size in
     let inside : 0 < length s.marks = omega arith in
     alone_added (nfa c.args.self.now) old new s flag c.add.result c.requires.memory

@@ -28,14 +28,8 @@ returns-clause-fresh g c = λ t.
     aimed_at_none (nfa c.args.self.now) c.args.byte (members c.args.sets.now.current)
     (members c.aim.new.next) c.requires.room.now aimed (eqb-true _ 0 t)
 
-pub aim-requires-clause-good : goal.aim-requires-clause-good
-aim-requires-clause-good g c = c.requires.room.now
-
 pub aim-requires-clause-size : goal.aim-requires-clause-size
 aim-requires-clause-size g c = omega arith
-
-pub aim-requires-clause-next_good : goal.aim-requires-clause-next_good
-aim-requires-clause-next_good g c = c.requires.room.next
 
 pub aim-requires-clause-next_size : goal.aim-requires-clause-next_size
 aim-requires-clause-next_size g c = omega arith
@@ -44,17 +38,17 @@ pub insert-requires-clause-some : goal.insert-requires-clause-some
 insert-requires-clause-some g c = omega arith
 
 pub aim-requires-clause-tidy : goal.aim-requires-clause-tidy
-aim-requires-clause-tidy g c = rw c.deref.ensures.value c.requires.runs.tidy
+aim-requires-clause-tidy g c = rw c.deref.ensures.value c.requires.built.runs.tidy
 
 pub insert-requires-clause-good : goal.insert-requires-clause-good
 insert-requires-clause-good g c = rw c.swap.ensures.x_after c.aim.ensures.aimed.good
 
 pub insert-requires-clause-within : goal.insert-requires-clause-within
 insert-requires-clause-within g c =
-    rw c.swap.ensures.x_after (omega (arith, c.requires.runs.start, c.aim.ensures.aimed.size))
+    rw c.swap.ensures.x_after (omega (arith, c.requires.built.runs.start, c.aim.ensures.aimed.size))
 
 pub close-requires-clause-tidy : goal.close-requires-clause-tidy
-close-requires-clause-tidy g c = rw c.deref-2.ensures.value c.requires.runs.tidy
+close-requires-clause-tidy g c = rw c.deref-2.ensures.value c.requires.built.runs.tidy
 
 pub close-requires-clause-good : goal.close-requires-clause-good
 close-requires-clause-good g c =

@@ -11,9 +11,9 @@ returns-clause-answer g c =
     let s = members c.args.sets.now.current in
     elim c.if-begins.branch [
       | then-begins w ↦
-          answers_whole m seeds c.requires.seeds c.args.begins c.hits_at_end.result s _ w.insert.ensures.inserted
+          answers_whole m seeds c.requires.built.seeds c.args.begins c.hits_at_end.result s _ w.insert.ensures.inserted
           w.if-begins.true (rw w.sets-is at c.hits_at_end.ensures.answer)
       | else-begins w ↦
-          answers_plainly m seeds c.requires.seeds c.args.begins c.hits_at_end.result (Has s) w.if-begins.false
+          answers_plainly m seeds c.requires.built.seeds c.args.begins c.hits_at_end.result (Has s) w.if-begins.false
           (rw w.sets-is at c.hits_at_end.ensures.answer)
     ]

@@ -18,7 +18,7 @@ returns-then-may_end g c = λ behind.
       )
       | else-may_begin w ↦ absurd (true≢false (sym c.if-may_end.true ∙ w.value-is ∙ w.if-may_begin.false))
     ] in
-    best_one m l i (get_or l i 0) c.args.self.now.seeds.items c.requires.seeds c.requires.runs
+    best_one m l i (get_or l i 0) c.args.self.now.seeds.items c.requires.built.seeds c.requires.built.runs
     (slice_get-get_or l i 0 (omega (arith, c.if-place-line.false))) c.if-place-eq0.false
     (omega (arith, c.if-place-line.false))
     bounds.0 bounds.1 (c.ends_behind.ensures behind)

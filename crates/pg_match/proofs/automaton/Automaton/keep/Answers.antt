@@ -14,21 +14,9 @@ returns-then-add-clause-memory g c =
     memory_grown (nfa c.args.self.now) old new s c.args.is_fresh c.requires.memory
     (subst (λ n. Grown n old new s c.args.is_fresh) c.requires.size grown) (λ z. absurd (omega arith))
 
-pub returns-then-known-ne0-clause-memory : goal.returns-then-known-ne0-clause-memory
-returns-then-known-ne0-clause-memory g c = c.requires.memory
-
 pub returns-then-known-ne0-clause-keeps : goal.returns-then-known-ne0-clause-keeps
 returns-then-known-ne0-clause-keeps g c =
     record { sets = λ r le q. (λ h. h, λ h. h); fresh = λ r le. refl; more = omega arith }
-
-pub returns-then-known-ne0-clause-known : goal.returns-then-known-ne0-clause-known
-returns-then-known-ne0-clause-known g c = c.find-known.ensures.known
-
-pub returns-then-known-ne0-clause-same : goal.returns-then-known-ne0-clause-same
-returns-then-known-ne0-clause-same g c = c.find-known.ensures.same
-
-pub returns-then-known-ne0-clause-fresh : goal.returns-then-known-ne0-clause-fresh
-returns-then-known-ne0-clause-fresh g c = c.find-known.ensures.fresh
 
 pub returns-then-add-clause-keeps : goal.returns-then-add-clause-keeps
 returns-then-add-clause-keeps g c = (c.add.ensures.grown c.if-add.true).keeps

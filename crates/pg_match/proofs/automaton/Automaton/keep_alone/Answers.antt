@@ -13,7 +13,7 @@ returns-then-add-clause-memory g c =
     let s = members c.args.set.now in
     let mark_0 = c.index.result.now in
     let flag = not (eqb mark_0 0) in
-    let start = c.requires.runs.start in
+    let start = c.requires.built.runs.start in
     let size = c.requires.size in
     let inside : 0 < length s.marks = omega arith in
     let grown = c.add.ensures.grown c.if-add.true in
@@ -21,18 +21,9 @@ returns-then-add-clause-memory g c =
     (subst (λ n. Grown n old new s flag) size grown)
     (accepts_so s mark_0 (get_or_read s.marks 0 mark_0 inside c.index.ensures 0)) (λ less. absurd (omega arith))
 
-pub returns-then-known-ne0-clause-memory : goal.returns-then-known-ne0-clause-memory
-returns-then-known-ne0-clause-memory g c = c.requires.memory
-
 pub returns-then-known-ne0-clause-keeps : goal.returns-then-known-ne0-clause-keeps
 returns-then-known-ne0-clause-keeps g c =
     record { sets = λ r le q. (λ h. h, λ h. h); fresh = λ r le. refl; more = omega arith }
-
-pub returns-then-known-ne0-clause-known : goal.returns-then-known-ne0-clause-known
-returns-then-known-ne0-clause-known g c = c.find-known.ensures.known
-
-pub returns-then-known-ne0-clause-same : goal.returns-then-known-ne0-clause-same
-returns-then-known-ne0-clause-same g c = c.find-known.ensures.same
 
 pub returns-then-add-clause-keeps : goal.returns-then-add-clause-keeps
 returns-then-add-clause-keeps g c = (c.add.ensures.grown c.if-add.true).keeps

@@ -88,26 +88,14 @@ overflow_cast-result g c = omega arith
 pub overflow_mul-result : goal.overflow_mul-result
 overflow_mul-result g c = omega arith
 
-pub returns-then-index-eq-HIT-clause-room : goal.returns-then-index-eq-HIT-clause-room
-returns-then-index-eq-HIT-clause-room g c = c.requires.room
-
-pub returns-then-index-eq-HIT-clause-memory : goal.returns-then-index-eq-HIT-clause-memory
-returns-then-index-eq-HIT-clause-memory g c = c.requires.memory
-
 pub returns-then-index-eq-HIT-clause-some : goal.returns-then-index-eq-HIT-clause-some
 returns-then-index-eq-HIT-clause-some g c = omega arith
 
 pub returns-then-index-eq-HIT-clause-visits : goal.returns-then-index-eq-HIT-clause-visits
 returns-then-index-eq-HIT-clause-visits g c = omega arith
 
-pub load-requires-clause-good : goal.load-requires-clause-good
-load-requires-clause-good g c = c.requires.room.now
-
 pub load-requires-clause-known : goal.load-requires-clause-known
 load-requires-clause-known g c = omega arith
-
-pub hits_before-requires-clause-runs : goal.hits_before-requires-clause-runs
-hits_before-requires-clause-runs g c = c.requires.runs
 
 pub hits_before-requires-clause-size : goal.hits_before-requires-clause-size
 hits_before-requires-clause-size g c = omega arith
@@ -121,23 +109,14 @@ returns-then-hits_before-clause-some g c = omega arith
 pub returns-then-hits_before-clause-visits : goal.returns-then-hits_before-clause-visits
 returns-then-hits_before-clause-visits g c = omega arith
 
-pub go-is_fresh-requires-clause-runs : goal.go-is_fresh-requires-clause-runs
-go-is_fresh-requires-clause-runs g c = c.requires.runs
-
 pub go-is_fresh-requires-clause-visits : goal.go-is_fresh-requires-clause-visits
 go-is_fresh-requires-clause-visits g c = omega arith
-
-pub keep-to-requires-clause-memory : goal.keep-to-requires-clause-memory
-keep-to-requires-clause-memory g c = c.requires.memory
 
 pub keep-to-requires-clause-size : goal.keep-to-requires-clause-size
 keep-to-requires-clause-size g c = omega arith
 
 pub keep-to-requires-clause-some : goal.keep-to-requires-clause-some
 keep-to-requires-clause-some g c = omega arith
-
-pub returns-then-to-eq0-clause-room : goal.returns-then-to-eq0-clause-room
-returns-then-to-eq0-clause-room g c = c.go-is_fresh.ensures.room
 
 pub returns-then-to-eq0-clause-memory : goal.returns-then-to-eq0-clause-memory
 returns-then-to-eq0-clause-memory g c =
@@ -158,9 +137,6 @@ mark-requires-2-clause-size g c = omega arith
 
 pub mark-requires-2-clause-row : goal.mark-requires-2-clause-row
 mark-requires-2-clause-row g c = omega arith
-
-pub returns-clause-room : goal.returns-clause-room
-returns-clause-room g c = c.go-is_fresh.ensures.room
 
 pub returns-clause-some : goal.returns-clause-some
 returns-clause-some g c = omega arith
@@ -188,9 +164,6 @@ go-is_fresh-requires-clause-room g c =
       now_size = omega (arith, c.load.ensures.size);
       next_size = c.requires.room.next_size;
     }
-
-pub keep-to-requires-clause-good : goal.keep-to-requires-clause-good
-keep-to-requires-clause-good g c = c.go-is_fresh.ensures.room.now
 
 pub mark-requires-clause-row : goal.mark-requires-clause-row
 mark-requires-clause-row g c = omega arith
@@ -222,7 +195,7 @@ returns-then-is_dead-clause-memory g c =
     (inr (inr (inl (
       refl,
       hopeless_there m c.args.byte s (In old r) c.load.ensures.same
-          (hopeless m c.args.byte s (Has (members c.go-is_fresh.new.sets.current)) c.requires.runs
+          (hopeless m c.args.byte s (Has (members c.go-is_fresh.new.sets.current)) c.requires.built.runs
           (λ h. true≢false (sym (c.hits_before.ensures.1 h) ∙ c.if-hits_before.false)) c.go-is_fresh.ensures.goes
           (c.is_dead.ensures c.if-is_dead.true)),
     ))))
@@ -232,6 +205,6 @@ returns-then-is_dead-clause-learned g c =
     let m = nfa c.args.self.now in
     let s = Has (members c.load.new.set) in
     hopeless_there m c.args.byte s (In (remembered c.args.memory.now) c.args.row) c.load.ensures.same
-    (hopeless m c.args.byte s (Has (members c.go-is_fresh.new.sets.current)) c.requires.runs
+    (hopeless m c.args.byte s (Has (members c.go-is_fresh.new.sets.current)) c.requires.built.runs
     (λ h. true≢false (sym (c.hits_before.ensures.1 h) ∙ c.if-hits_before.false)) c.go-is_fresh.ensures.goes
     (c.is_dead.ensures c.if-is_dead.true))

@@ -10,7 +10,7 @@ use Rattle.pg_match.proofs.automaton.Automaton.longest.Goals.{else-index-via-els
 pub loop-place-init : goal.loop-place-init
 loop-place-init g c =
     follows_first (nfa c.args.self.now) (remembered c.args.memory.now) c.requires.memory c.args.line.now c.args.start
-    c.requires.runs c.start_row-row.result c.start_row-row.ensures (omega arith) (omega arith)
+    c.requires.built.runs c.start_row-row.result c.start_row-row.ensures (omega arith) (omega arith)
 
 pub overflow_cast-state : goal.overflow_cast-state
 overflow_cast-state g c = omega (arith, c.start_row-row.ensures, start_row_few c.args.start)
@@ -18,7 +18,7 @@ overflow_cast-state g c = omega (arith, c.start_row-row.ensures, start_row_few c
 pub returns-then-next-eq-DEAD : goal.returns-then-next-eq-DEAD
 returns-then-next-eq-DEAD g c =
     rw c.outcome_at.ensures (begun_dead (nfa c.args.self.now) (remembered c.args.memory.now) c.requires.memory
-    c.args.line.now c.args.start c.requires.runs c.loop-place.place c.loop-place.state c.index-next.result.now
+    c.args.line.now c.args.start c.requires.built.runs c.loop-place.place c.loop-place.state c.index-next.result.now
     c.loop-place.last c.loop-place.invariant (c.may_begin.ensures.0 c.if-not-may_begin.false)
     (omega (arith, c.type_inv.line c.loop-place.place)) c.loop-place-test.true c.index-next.ensures
     c.if-next-eq-DEAD.true)
@@ -29,7 +29,7 @@ index-requires g c =
     let m = nfa c.args.self.now in
     let t = remembered c.args.memory.now in
     let p = c.loop-place.place in
-    let inside = in_flags m t c.requires.memory c.args.line.now c.args.start c.requires.runs p c.loop-place.state
+    let inside = in_flags m t c.requires.memory c.args.line.now c.args.start c.requires.built.runs p c.loop-place.state
     c.index-next.result.now c.loop-place.last c.loop-place.invariant (omega (arith, c.type_inv.line p))
     c.loop-place-test.true c.index-next.ensures c.if-next-lt256.false in
     omega arith
@@ -38,7 +38,7 @@ pub loop-place-preserved-then-may_end : goal.loop-place-preserved-then-may_end
 loop-place-preserved-then-may_end g c =
     let p = c.loop-place.place in
     follows_end (nfa c.args.self.now) (remembered c.args.memory.now) c.requires.memory c.args.line.now c.args.start
-    c.requires.runs p c.loop-place.state c.index-next.result.now c.loop-place.last c.loop-place.invariant
+    c.requires.built.runs p c.loop-place.state c.index-next.result.now c.loop-place.last c.loop-place.invariant
     (omega (arith, c.type_inv.line p)) c.loop-place-test.true c.index-next.ensures c.if-next-lt256.false
     c.index.result.now c.index.ensures c.if-index.true (c.may_end.ensures.0 c.if-may_end.true)
 
@@ -46,7 +46,7 @@ pub loop-place-preserved : goal.loop-place-preserved
 loop-place-preserved g c =
     let p = c.loop-place.place in
     follows_on (nfa c.args.self.now) (remembered c.args.memory.now) c.requires.memory c.args.line.now c.args.start
-    c.requires.runs p c.loop-place.state c.index-next.result.now c.loop-place.last c.loop-place.invariant
+    c.requires.built.runs p c.loop-place.state c.index-next.result.now c.loop-place.last c.loop-place.invariant
     (omega (arith, c.type_inv.line p)) c.loop-place-test.true c.index-next.ensures c.if-next-lt256.false
     c.index.result.now c.index.ensures
     (λ flag may. elim c.else-index.branch [
@@ -66,7 +66,7 @@ returns-then-is_end g c =
       c.requires.memory.shape.ends_size,
     ) in
     let told = get_or_read t.ends (at / 256) c.index-2.result.now inside c.index-2.ensures None in
-    best_at_end m t c.requires.memory c.args.line.now c.args.start c.requires.runs at c.loop-place.place
+    best_at_end m t c.requires.memory c.args.line.now c.args.start c.requires.built.runs at c.loop-place.place
     c.loop-place.last f (c.may_begin.ensures.0 c.if-not-may_begin.false) (omega arith) (omega arith)
     (ends_told m t c.requires.memory (at / 256) c.index-2.result.now c.in-Some.is_end true told c.in-Some.is
     c.if-is_end.true)
@@ -84,7 +84,7 @@ returns-else-is_end g c =
     ) in
     let told = get_or_read t.ends (at / 256) c.index-2.result.now inside c.index-2.ensures None in
     rw c.outcome_at-else-is_end.ensures (begun_no_more m t c.requires.memory c.args.line.now c.args.start
-    c.requires.runs at c.loop-place.place c.loop-place.last f (c.may_begin.ensures.0 c.if-not-may_begin.false)
+    c.requires.built.runs at c.loop-place.place c.loop-place.last f (c.may_begin.ensures.0 c.if-not-may_begin.false)
     (omega arith) (omega arith)
     (ends_told m t c.requires.memory (at / 256) c.index-2.result.now c.in-Some.is_end false told c.in-Some.is
     c.if-is_end.false))

@@ -10,12 +10,12 @@ insert-requires-clause-within g c =
     let m = c.args.self.now in
     let b = c.args.byte in
     let byte : b < 256 = omega arith in
-    let up = c.requires.starts.below.upto b byte in
+    let up = c.requires.built.starts.below.upto b byte in
     let lt : c.loop-k.k < length m.starts.targets.items = omega (arith, c.row-first.ensures.last) in
     let read = get_or_read m.starts.targets.items c.loop-k.k _ lt c.index-target.ensures 0 in
-    let w = c.requires.starts.below.from b c.loop-k.k byte (omega (arith, c.row-first.ensures.first, c.loop-k.auto.k))
+    let w = c.requires.built.starts.below.from b c.loop-k.k byte (omega (arith, c.row-first.ensures.first, c.loop-k.auto.k))
     (omega (arith, c.row-first.ensures.last)) in
-    let inside = read_inside m.states.items _ b _ c.requires.runs.tidy (c.requires.seeds.inside w.0 w.1) w.2 in
+    let inside = read_inside m.states.items _ b _ c.requires.built.runs.tidy (c.requires.built.seeds.inside w.0 w.1) w.2 in
     omega (arith, read, inside, c.loop-k.invariant.size, c.requires.size)
 
 pub loop-k-preserved : goal.loop-k-preserved
@@ -25,10 +25,10 @@ loop-k-preserved g c =
     let k = c.loop-k.k in
     let targets = m.starts.targets.items in
     let byte : b < 256 = omega arith in
-    let up = c.requires.starts.below.upto b byte in
+    let up = c.requires.built.starts.below.upto b byte in
     let lt : k < length targets = omega (arith, c.row-first.ensures.last) in
     let read = get_or_read targets k _ lt c.index-target.ensures 0 in
-    let w = c.requires.starts.below.from b k byte (omega (arith, c.row-first.ensures.first, c.loop-k.auto.k))
+    let w = c.requires.built.starts.below.from b k byte (omega (arith, c.row-first.ensures.first, c.loop-k.auto.k))
     (omega (arith, c.row-first.ensures.last)) in
     let u = members c.loop-k.next in
     let v = members c.insert.new.self in
@@ -40,5 +40,5 @@ returns g c =
     let m = c.args.self.now in
     planted m.states.items m.seeds.items m.starts.targets.items c.args.byte (members c.args.next.now)
     c.row-first.result.0 (members c.loop-k.next) c.loop-k.k m.starts.cuts.items c.loop-k.invariant
-    c.requires.starts.below (omega arith) c.row-first.ensures.first
+    c.requires.built.starts.below (omega arith) c.row-first.ensures.first
     (omega (arith, c.row-first.ensures.last, c.loop-k-test.false))

@@ -86,12 +86,6 @@ returns-then-place-line-clause-told g c =
 pub returns-in-Found-clause-told : goal.returns-in-Found-clause-told
 returns-in-Found-clause-told g c = told_on _ _ _ _ _ _ c.loop-cursor.invariant.told c.cross.ensures.told
 
-pub walk-state-requires-clause-from_in : goal.walk-state-requires-clause-from_in
-walk-state-requires-clause-from_in g c = c.loop-cursor.invariant.cursor.within
-
-pub walk-state-requires-clause-row : goal.walk-state-requires-clause-row
-walk-state-requires-clause-row g c = c.loop-cursor.invariant.cursor.row
-
 pub cross-requires-clause-cursor : goal.cross-requires-clause-cursor
 cross-requires-clause-cursor g c =
     let here = c.loop-cursor.invariant.cursor in

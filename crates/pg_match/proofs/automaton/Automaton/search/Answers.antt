@@ -13,6 +13,6 @@ returns-then-is_empty-clause-exact g c =
     let l = c.args.line.now in
     let S = Has (members c.begin.new.sets.current) in
     let none = eqb-true (length l) 0 (sym c.is_empty.ensures ∙ c.if-is_empty.true) in
-    ended_so m l 0 S c.hits_at_end.result true c.requires.runs
+    ended_so m l 0 S c.hits_at_end.result true c.requires.built.runs
     (subst (λ p. Stands m l 0 p S) (sym none) (stands_first m l S c.begin.ensures.starts))
     (λ t. none) (λ e. refl) c.hits_at_end.ensures.answer

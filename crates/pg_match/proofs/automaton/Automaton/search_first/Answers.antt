@@ -19,7 +19,7 @@ returns-then-hits_before-clause-exact g c = (
       let l = c.args.line.now in
       let S = Has (members c.args.sets.now.current) in
       let lt : 0 < length l = omega (arith, c.requires.bytes) in
-      run_before m l 0 0 _ S (stands_first m l S c.requires.begun) c.requires.runs (slice_get-get_or l 0 0 lt) lt
+      run_before m l 0 0 _ S (stands_first m l S c.requires.begun) c.requires.built.runs (slice_get-get_or l 0 0 lt) lt
       (c.hits_before.ensures.0 c.if-hits_before.true),
   λ run. refl,
 )
@@ -37,9 +37,9 @@ returns-clause-exact g c =
     let U = Has (members c.go.new.sets.current) in
     some_answer m c.args.self.now.seeds.items l _ _ _ c.unwrap.result c.unwrap.ensures
     (c.search_on.ensures.searched 0 (omega arith)
-    (stands_whole m c.args.self.now.seeds.items c.requires.seeds l 0 1 U (omega arith) (omega arith)
+    (stands_whole m c.args.self.now.seeds.items c.requires.built.seeds l 0 1 U (omega arith) (omega arith)
     (stands_next m l 0 0 _ S U (slice_get-get_or l 0 0 lt) lt (stands_first m l S c.requires.begun)
-    c.go.ensures.goes (omega arith) c.requires.runs
+    c.go.ensures.goes (omega arith) c.requires.built.runs
     (λ h. true≢false (sym (c.hits_before.ensures.1 h) ∙ c.if-hits_before.false)))))
 
 pub search_on-requires-clause-visits : goal.search_on-requires-clause-visits

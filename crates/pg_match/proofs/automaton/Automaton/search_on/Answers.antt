@@ -45,7 +45,7 @@ returns-then-hits_here-clause-searched g c = λ start le s. (
       let lt : p < length l = omega arith in
       run_before m l start p _ (WithSeeds seeds (IsTrue c.may_begin-begins.result) S)
       (stands_seeded m l seeds start p _ S c.may_begin-begins.ensures (c.loop-place.invariant.stands start le s))
-      c.requires.runs (slice_get-get_or l p 0 lt) lt (c.hits_here.ensures.0 c.if-hits_here.true),
+      c.requires.built.runs (slice_get-get_or l p 0 lt) lt (c.hits_here.ensures.0 c.if-hits_here.true),
   λ run. refl,
 )
 
@@ -56,7 +56,7 @@ returns-then-sets-eq0-clause-searched g c = λ start le s.
     let p = c.loop-place.place in
     let lt : p < length l = omega arith in
     stands_on m l c.args.self.now.seeds.items start p _ _ (Has (members c.loop-place.sets.current))
-    (Has (members c.go_on.new.sets.current)) c.requires.seeds c.requires.runs (slice_get-get_or l p 0 lt) lt
+    (Has (members c.go_on.new.sets.current)) c.requires.built.seeds c.requires.built.runs (slice_get-get_or l p 0 lt) lt
     (omega arith) c.may_begin-begins.ensures c.go_on.ensures.goes
     (λ h. true≢false (sym (c.hits_here.ensures.1 h) ∙ c.if-hits_here.false)) (c.loop-place.invariant.stands start le s)
 
@@ -72,7 +72,7 @@ loop-place-preserved g c =
       room = c.go_on.ensures.room;
       stands = λ start le s.
           stands_on m l c.args.self.now.seeds.items start p _ _ (Has (members c.loop-place.sets.current))
-          (Has (members c.go_on.new.sets.current)) c.requires.seeds c.requires.runs (slice_get-get_or l p 0 lt) lt
+          (Has (members c.go_on.new.sets.current)) c.requires.built.seeds c.requires.built.runs (slice_get-get_or l p 0 lt) lt
           (omega arith) c.may_begin-begins.ensures c.go_on.ensures.goes
           (λ h. true≢false (sym (c.hits_here.ensures.1 h) ∙ c.if-hits_here.false))
           (c.loop-place.invariant.stands start le s);
@@ -94,7 +94,7 @@ returns-clause-searched g c = λ start le s.
     let whole = WithSeeds seeds (IsTrue c.may_begin-begins-2.result) S in
     let stand = stands_seeded m l seeds start (length l) _ S c.may_begin-begins-2.ensures
     (subst (λ p. StandsUnseeded m seeds l start p S) end (c.loop-place.invariant.stands start le s)) in
-    ended_so m l start whole c.hits_behind.result false c.requires.runs stand
+    ended_so m l start whole c.hits_behind.result false c.requires.built.runs stand
     (λ t. absurd (true≢false (sym t))) (λ e. absurd (omega arith)) c.hits_behind.ensures.answer
 
 pub go_on-requires-clause-visits : goal.go_on-requires-clause-visits
@@ -120,9 +120,6 @@ returns-clause-visits g c =
     let v = subst (λ p. c.loop-place.sets.visits ≤ p * n + c.loop-place.sets.current.len)
     end c.loop-place.invariant.visits in
     omega (arith, v, c.hits_behind.ensures.visits)
-
-pub returns-then-hits_here-clause-told : goal.returns-then-hits_here-clause-told
-returns-then-hits_here-clause-told g c = c.loop-place.invariant.told
 
 pub returns-clause-told : goal.returns-clause-told
 returns-clause-told g c = omega (arith, c.loop-place.invariant.told, c.hits_behind.ensures.told)

@@ -2,7 +2,7 @@ use Rattle.std.proofs.Common.{◌≡◌, ◌+◌, ◌/◌, ◌<◌, ◌≤◌, �
 use Rattle.std.proofs.lemmas.List.{get_or_read}
 use Rattle.std.proofs.lemmas.Option.{slice_get-get_or}
 use Rattle.pg_match.specs.Views.{nfa, remembered}
-use Rattle.pg_match.proofs.CacheLemmas.{in_table, row_next}
+use Rattle.pg_match.proofs.CacheLemmas.{in_table, told_dead, row_next}
 use Rattle.pg_match.proofs.SkimLemmas.{skim_first, skim_later, skim_on, skim_fresh}
 use Rattle.pg_match.proofs.automaton.Automaton.skim.Goals as goal
 use Rattle.pg_match.proofs.automaton.Automaton.skim.Goals.{then-from-eq0, else-from-eq0}
@@ -24,9 +24,6 @@ follow_rows-state-requires-clause-skimmed g c =
           (skim_later m mem l c.args.from c.saturating_sub.result c.requires.memory w.if-from-eq0.false
           c.requires.from_in (omega arith))
     ]
-
-pub loop-place-init : goal.loop-place-init
-loop-place-init g c = c.follow_rows-state.ensures
 
 pub index-requires : goal.index-requires
 index-requires g c =
@@ -67,7 +64,7 @@ loop-place-preserved-then-index g c =
     let inside : v / 256 < length mem.fresh =
     omega (arith, row.0.known, c.requires.memory.shape.few, c.requires.memory.shape.fresh_size) in
     let fresh = get_or_read mem.fresh (v / 256) c.index.result.now inside c.index.ensures false in
-    skim_fresh m mem l c.args.from p at c.loop-place.start v b c.requires.runs c.requires.memory lt
+    skim_fresh m mem l c.args.from p at c.loop-place.start v b c.requires.built.runs c.requires.memory lt
     (slice_get-get_or l p 0 (omega arith)) more read big s
     (sym fresh ∙ c.if-index.true)
 
@@ -86,7 +83,7 @@ loop-place-preserved g c =
     let read = get_or_read mem.steps (at + b) v
     (in_table m mem at b c.requires.memory s.row lt) c.index-next.ensures 0 in
     let big : 256 ≤ v = omega (arith, c.if-next-lt256.false) in
-    skim_on m mem l c.args.from p at c.loop-place.start v b c.requires.runs c.requires.memory lt
+    skim_on m mem l c.args.from p at c.loop-place.start v b c.requires.built.runs c.requires.memory lt
     (slice_get-get_or l p 0 (omega arith)) more read big s
 
 pub returns-in-Some-false : goal.returns-in-Some-false
@@ -98,3 +95,19 @@ returns-in-Some-false g c = λ run.
     let end : p + 1 ≡ length l = omega (arith, c.loop-place-test.false) in
     let so = c.in-Some-false.ensures l c.args.from p s.stands (slice_get-get_or l p 0 lt) end s.near in
     true≢false (sym (so.1 run) ∙ c.in-Some-false.field-0-test)
+
+pub returns-then-next-eq-DEAD : goal.returns-then-next-eq-DEAD
+returns-then-next-eq-DEAD g c = λ run.
+    let m = nfa c.args.self.now in
+    let mem = remembered c.args.memory.now in
+    let l = c.args.line.now in
+    let s = c.loop-place.invariant in
+    let p = c.loop-place.place in
+    let at = c.loop-place.state in
+    let v = c.index-next.result.now in
+    let b = get_or l p 0 in
+    let lt : b < 256 = omega (arith, c.type_inv.line p) in
+    let read = get_or_read mem.steps (at + b) v
+    (in_table m mem at b c.requires.memory s.row lt) c.index-next.ensures 0 in
+    told_dead m mem at v b c.requires.memory s.row lt read c.if-next-eq-DEAD.true l c.args.from p s.within s.stands
+    (slice_get-get_or l p 0 s.within) run

@@ -13,12 +13,12 @@ reach-requires-clause-within g c =
     let m = c.args.self.now in
     let b = slice_index c.args.line.now c.args.place in
     let byte : b < 256 = omega (arith, c.type_inv.line c.args.place) in
-    let up = c.requires.starts.below.upto b byte in
+    let up = c.requires.built.starts.below.upto b byte in
     let lt : c.loop-k.k < length m.starts.targets.items = omega (arith, c.row-first.ensures.last) in
     let read = get_or_read m.starts.targets.items c.loop-k.k _ lt c.index-target.ensures 0 in
-    let w = c.requires.starts.below.from b c.loop-k.k byte (omega (arith, c.row-first.ensures.first, c.loop-k.auto.k))
+    let w = c.requires.built.starts.below.from b c.loop-k.k byte (omega (arith, c.row-first.ensures.first, c.loop-k.auto.k))
     (omega (arith, c.row-first.ensures.last)) in
-    let inside = read_inside m.states.items _ b _ c.requires.runs.tidy (c.requires.seeds.inside w.0 w.1) w.2 in
+    let inside = read_inside m.states.items _ b _ c.requires.built.runs.tidy (c.requires.built.seeds.inside w.0 w.1) w.2 in
     omega (arith, read, inside, c.deref.ensures.len)
 
 pub loop-k-preserved : goal.loop-k-preserved
@@ -31,10 +31,10 @@ loop-k-preserved g c =
     let t = m.states.items in
     let targets = m.starts.targets.items in
     let byte : b < 256 = omega (arith, c.type_inv.line p) in
-    let up = c.requires.starts.below.upto b byte in
+    let up = c.requires.built.starts.below.upto b byte in
     let lt : k < length targets = omega (arith, c.row-first.ensures.last) in
     let read = get_or_read targets k _ lt c.index-target.ensures 0 in
-    let w = c.requires.starts.below.from b k byte (omega (arith, c.row-first.ensures.first, c.loop-k.auto.k))
+    let w = c.requires.built.starts.below.from b k byte (omega (arith, c.row-first.ensures.first, c.loop-k.auto.k))
     (omega (arith, c.row-first.ensures.last)) in
     let is = slice_get-get_or l p 0 c.requires.place in
     let u = members c.loop-k.next in
@@ -54,5 +54,5 @@ returns g c =
     let is = slice_get-get_or l p 0 c.requires.place in
     sown m.states.items l p m.seeds.items m.starts.targets.items (members c.args.next.now) (p + 1)
     c.row-first.result.0 (members c.loop-k.next) c.loop-k.k b m.starts.cuts.items c.loop-k.invariant
-    c.requires.starts.below byte is c.row-first.ensures.first
+    c.requires.built.starts.below byte is c.row-first.ensures.first
     (omega (arith, c.row-first.ensures.last, c.loop-k-test.false))

@@ -107,74 +107,20 @@ loop-sets-smaller g c = omega arith
 pub overflow_sub-line : goal.overflow_sub-line
 overflow_sub-line g c = omega arith
 
-pub first-requires-clause-runs : goal.first-requires-clause-runs
-first-requires-clause-runs g c = c.requires.runs
-
-pub first-requires-clause-room : goal.first-requires-clause-room
-first-requires-clause-room g c = c.requires.room
-
-pub first-requires-clause-memory : goal.first-requires-clause-memory
-first-requires-clause-memory g c = c.requires.memory
-
-pub walk-at-requires-clause-runs : goal.walk-at-requires-clause-runs
-walk-at-requires-clause-runs g c = c.requires.runs
-
-pub walk-at-requires-clause-memory : goal.walk-at-requires-clause-memory
-walk-at-requires-clause-memory g c = c.loop-sets.invariant.memory
-
 pub walk-at-requires-clause-from_in : goal.walk-at-requires-clause-from_in
 walk-at-requires-clause-from_in g c = omega arith
-
-pub walk-at-requires-clause-row : goal.walk-at-requires-clause-row
-walk-at-requires-clause-row g c = c.loop-sets.invariant.row
-
-pub returns-then-sets-most-2-clause-room : goal.returns-then-sets-most-2-clause-room
-returns-then-sets-most-2-clause-room g c = c.loop-sets.invariant.room
-
-pub returns-then-sets-most-2-clause-memory : goal.returns-then-sets-most-2-clause-memory
-returns-then-sets-most-2-clause-memory g c = c.loop-sets.invariant.memory
 
 pub returns-then-sets-most-2-clause-visits : goal.returns-then-sets-most-2-clause-visits
 returns-then-sets-most-2-clause-visits g c = omega arith
 
-pub finish-requires-clause-runs : goal.finish-requires-clause-runs
-finish-requires-clause-runs g c = c.requires.runs
-
-pub finish-requires-clause-room : goal.finish-requires-clause-room
-finish-requires-clause-room g c = c.loop-sets.invariant.room
-
-pub finish-requires-clause-memory : goal.finish-requires-clause-memory
-finish-requires-clause-memory g c = c.loop-sets.invariant.memory
-
-pub finish-requires-clause-row : goal.finish-requires-clause-row
-finish-requires-clause-row g c = c.walk-at.ensures.row
-
 pub finish-requires-clause-some : goal.finish-requires-clause-some
 finish-requires-clause-some g c = omega arith
-
-pub returns-then-here-line-clause-room : goal.returns-then-here-line-clause-room
-returns-then-here-line-clause-room g c = c.finish.ensures.room
-
-pub returns-then-here-line-clause-memory : goal.returns-then-here-line-clause-memory
-returns-then-here-line-clause-memory g c = c.finish.ensures.memory
-
-pub learn-requires-clause-runs : goal.learn-requires-clause-runs
-learn-requires-clause-runs g c = c.requires.runs
-
-pub learn-requires-clause-room : goal.learn-requires-clause-room
-learn-requires-clause-room g c = c.loop-sets.invariant.room
-
-pub learn-requires-clause-memory : goal.learn-requires-clause-memory
-learn-requires-clause-memory g c = c.loop-sets.invariant.memory
 
 pub learn-requires-clause-known : goal.learn-requires-clause-known
 learn-requires-clause-known g c = omega arith
 
 pub learn-requires-clause-some : goal.learn-requires-clause-some
 learn-requires-clause-some g c = omega arith
-
-pub returns-in-Lost-clause-room : goal.returns-in-Lost-clause-room
-returns-in-Lost-clause-room g c = c.learn.ensures.room
 
 pub returns-in-Lost-clause-memory : goal.returns-in-Lost-clause-memory
 returns-in-Lost-clause-memory g c = rw c.lose-in-Lost.ensures c.in-Lost.ensures.memory
@@ -202,18 +148,6 @@ loop-sets-init g c =
           first.visits;
       told = first.told;
     }
-
-pub returns-then-sets-most-clause-room : goal.returns-then-sets-most-clause-room
-returns-then-sets-most-clause-room g c = c.requires.room
-
-pub returns-then-sets-most-clause-memory : goal.returns-then-sets-most-clause-memory
-returns-then-sets-most-clause-memory g c = c.requires.memory
-
-pub returns-then-sets-most-clause-visits : goal.returns-then-sets-most-clause-visits
-returns-then-sets-most-clause-visits g c = c.requires.visits
-
-pub returns-then-sets-most-2-clause-told : goal.returns-then-sets-most-2-clause-told
-returns-then-sets-most-2-clause-told g c = c.loop-sets.invariant.told
 
 pub returns-then-here-line-clause-told : goal.returns-then-here-line-clause-told
 returns-then-here-line-clause-told g c = omega (arith, c.loop-sets.invariant.told, c.finish.ensures.told)

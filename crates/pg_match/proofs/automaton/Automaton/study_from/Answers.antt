@@ -77,93 +77,6 @@ learn_alone-requires-clause-visits g c =
     within_room _ (length c.args.self.now.states.items) _ _ (c.len-size.ensures ∙ size)
     c.requires.short (omega arith) c.if-sets-most-2.false
 
-pub first_alone-requires-clause-runs : goal.first_alone-requires-clause-runs
-first_alone-requires-clause-runs g c = c.requires.runs
-
-pub first_alone-requires-clause-room : goal.first_alone-requires-clause-room
-first_alone-requires-clause-room g c = c.loop-memory.invariant.room
-
-pub first_alone-requires-clause-memory : goal.first_alone-requires-clause-memory
-first_alone-requires-clause-memory g c = c.loop-memory.invariant.memory
-
-pub learn_alone-requires-clause-runs : goal.learn_alone-requires-clause-runs
-learn_alone-requires-clause-runs g c = c.requires.runs
-
-pub learn_alone-requires-clause-seeds : goal.learn_alone-requires-clause-seeds
-learn_alone-requires-clause-seeds g c = c.requires.seeds
-
-pub learn_alone-requires-clause-starts : goal.learn_alone-requires-clause-starts
-learn_alone-requires-clause-starts g c = c.requires.starts
-
-pub learn_alone-requires-clause-room : goal.learn_alone-requires-clause-room
-learn_alone-requires-clause-room g c = c.loop-place.invariant.room
-
-pub learn_alone-requires-clause-memory : goal.learn_alone-requires-clause-memory
-learn_alone-requires-clause-memory g c = c.loop-place.invariant.memory
-
-pub learn_alone-requires-clause-known : goal.learn_alone-requires-clause-known
-learn_alone-requires-clause-known g c = c.loop-place.invariant.known
-
-pub learn_alone-requires-clause-some : goal.learn_alone-requires-clause-some
-learn_alone-requires-clause-some g c = c.loop-place.invariant.some
-
-pub learn_end-requires-clause-runs : goal.learn_end-requires-clause-runs
-learn_end-requires-clause-runs g c = c.requires.runs
-
-pub learn_end-requires-clause-room : goal.learn_end-requires-clause-room
-learn_end-requires-clause-room g c = c.loop-place.invariant.room
-
-pub learn_end-requires-clause-memory : goal.learn_end-requires-clause-memory
-learn_end-requires-clause-memory g c = c.loop-place.invariant.memory
-
-pub learn_end-requires-clause-known : goal.learn_end-requires-clause-known
-learn_end-requires-clause-known g c = c.loop-place.invariant.known
-
-pub first_alone-requires-clause-few : goal.first_alone-requires-clause-few
-first_alone-requires-clause-few g c = c.loop-memory-test.true
-
-pub returns-then-sets-most-clause-room : goal.returns-then-sets-most-clause-room
-returns-then-sets-most-clause-room g c = c.loop-memory.invariant.room
-
-pub returns-then-sets-most-clause-memory : goal.returns-then-sets-most-clause-memory
-returns-then-sets-most-clause-memory g c = c.loop-memory.invariant.memory
-
-pub returns-then-sets-most-clause-visits : goal.returns-then-sets-most-clause-visits
-returns-then-sets-most-clause-visits g c = c.loop-memory.invariant.visits
-
-pub returns-then-sets-most-clause-told : goal.returns-then-sets-most-clause-told
-returns-then-sets-most-clause-told g c = c.loop-memory.invariant.told
-
-pub returns-then-sets-most-2-clause-room : goal.returns-then-sets-most-2-clause-room
-returns-then-sets-most-2-clause-room g c = c.loop-place.invariant.room
-
-pub returns-then-sets-most-2-clause-memory : goal.returns-then-sets-most-2-clause-memory
-returns-then-sets-most-2-clause-memory g c = c.loop-place.invariant.memory
-
-pub returns-then-sets-most-2-clause-visits : goal.returns-then-sets-most-2-clause-visits
-returns-then-sets-most-2-clause-visits g c = c.loop-place.invariant.visits
-
-pub returns-then-sets-most-2-clause-told : goal.returns-then-sets-most-2-clause-told
-returns-then-sets-most-2-clause-told g c = c.loop-place.invariant.told
-
-pub returns-else-sets-most-3-clause-room : goal.returns-else-sets-most-3-clause-room
-returns-else-sets-most-3-clause-room g c = c.loop-place.invariant.room
-
-pub returns-else-sets-most-3-clause-memory : goal.returns-else-sets-most-3-clause-memory
-returns-else-sets-most-3-clause-memory g c = c.loop-place.invariant.memory
-
-pub returns-else-sets-most-3-clause-visits : goal.returns-else-sets-most-3-clause-visits
-returns-else-sets-most-3-clause-visits g c = c.loop-place.invariant.visits
-
-pub returns-else-sets-most-3-clause-told : goal.returns-else-sets-most-3-clause-told
-returns-else-sets-most-3-clause-told g c = c.loop-place.invariant.told
-
-pub returns-then-not-first_alone-clause-room : goal.returns-then-not-first_alone-clause-room
-returns-then-not-first_alone-clause-room g c = c.first_alone.ensures.room
-
-pub returns-then-not-first_alone-clause-memory : goal.returns-then-not-first_alone-clause-memory
-returns-then-not-first_alone-clause-memory g c = c.first_alone.ensures.memory
-
 pub returns-then-not-first_alone-clause-visits : goal.returns-then-not-first_alone-clause-visits
 returns-then-not-first_alone-clause-visits g c =
     visits_whole _ _ _ _ _ (c.len-size.ensures ∙ c.args.self.now.states.ok.0) c.if-sets-most.false
@@ -173,12 +86,6 @@ pub returns-then-not-first_alone-clause-told : goal.returns-then-not-first_alone
 returns-then-not-first_alone-clause-told g c =
     told_on _ _ _ _ _ _ c.loop-memory.invariant.told c.first_alone.ensures.told
 
-pub returns-in-None-clause-room : goal.returns-in-None-clause-room
-returns-in-None-clause-room g c = c.in-None.ensures.room
-
-pub returns-in-None-clause-memory : goal.returns-in-None-clause-memory
-returns-in-None-clause-memory g c = c.in-None.ensures.memory
-
 pub returns-in-None-clause-visits : goal.returns-in-None-clause-visits
 returns-in-None-clause-visits g c =
     visits_whole _ _ _ _ _ (c.len-size.ensures ∙ c.args.self.now.states.ok.0) c.if-sets-most-2.false
@@ -186,12 +93,6 @@ returns-in-None-clause-visits g c =
 
 pub returns-in-None-clause-told : goal.returns-in-None-clause-told
 returns-in-None-clause-told g c = told_on _ _ _ _ _ _ c.loop-place.invariant.told c.in-None.ensures.told
-
-pub returns-then-sets-most-3-clause-room : goal.returns-then-sets-most-3-clause-room
-returns-then-sets-most-3-clause-room g c = c.learn_end.ensures.room
-
-pub returns-then-sets-most-3-clause-memory : goal.returns-then-sets-most-3-clause-memory
-returns-then-sets-most-3-clause-memory g c = c.learn_end.ensures.memory
 
 pub returns-then-sets-most-3-clause-visits : goal.returns-then-sets-most-3-clause-visits
 returns-then-sets-most-3-clause-visits g c =

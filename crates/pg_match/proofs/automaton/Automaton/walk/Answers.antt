@@ -25,7 +25,7 @@ index-two-requires g c =
     let w0 = c.loop-place.invariant in
     let more : p + 4 < length l = omega (arith, c.loop-place-test.true) in
     let w1 = walking_read m mem l c.args.from c.args.state p (p + 1) c.loop-place.at
-    c.index-one.result.now (omega arith) c.requires.runs c.requires.memory (omega (arith, c.type_inv.line p))
+    c.index-one.result.now (omega arith) c.requires.built.runs c.requires.memory (omega (arith, c.type_inv.line p))
     (omega arith) c.index-one.ensures c.if-one-lt256.false w0 in
     let inside = in_table m mem c.index-one.result.now (get_or l (p + 1) 0) c.requires.memory w1.row
     (omega (arith, c.type_inv.line (p + 1))) in
@@ -41,10 +41,10 @@ index-three-requires g c =
     let w0 = c.loop-place.invariant in
     let more : p + 4 < length l = omega (arith, c.loop-place-test.true) in
     let w1 = walking_read m mem l c.args.from c.args.state p (p + 1) c.loop-place.at
-    c.index-one.result.now (omega arith) c.requires.runs c.requires.memory (omega (arith, c.type_inv.line p))
+    c.index-one.result.now (omega arith) c.requires.built.runs c.requires.memory (omega (arith, c.type_inv.line p))
     (omega arith) c.index-one.ensures c.if-one-lt256.false w0 in
     let w2 = walking_read m mem l c.args.from c.args.state (p + 1) (p + 2) c.index-one.result.now
-    c.index-two.result.now (omega arith) c.requires.runs c.requires.memory (omega (arith, c.type_inv.line (p + 1)))
+    c.index-two.result.now (omega arith) c.requires.built.runs c.requires.memory (omega (arith, c.type_inv.line (p + 1)))
     (omega arith) c.index-two.ensures c.if-two-lt256.false w1 in
     let inside = in_table m mem c.index-two.result.now (get_or l (p + 2) 0) c.requires.memory w2.row
     (omega (arith, c.type_inv.line (p + 2))) in
@@ -60,13 +60,13 @@ index-four-requires g c =
     let w0 = c.loop-place.invariant in
     let more : p + 4 < length l = omega (arith, c.loop-place-test.true) in
     let w1 = walking_read m mem l c.args.from c.args.state p (p + 1) c.loop-place.at
-    c.index-one.result.now (omega arith) c.requires.runs c.requires.memory (omega (arith, c.type_inv.line p))
+    c.index-one.result.now (omega arith) c.requires.built.runs c.requires.memory (omega (arith, c.type_inv.line p))
     (omega arith) c.index-one.ensures c.if-one-lt256.false w0 in
     let w2 = walking_read m mem l c.args.from c.args.state (p + 1) (p + 2) c.index-one.result.now
-    c.index-two.result.now (omega arith) c.requires.runs c.requires.memory (omega (arith, c.type_inv.line (p + 1)))
+    c.index-two.result.now (omega arith) c.requires.built.runs c.requires.memory (omega (arith, c.type_inv.line (p + 1)))
     (omega arith) c.index-two.ensures c.if-two-lt256.false w1 in
     let w3 = walking_read m mem l c.args.from c.args.state (p + 2) (p + 3) c.index-two.result.now
-    c.index-three.result.now (omega arith) c.requires.runs c.requires.memory (omega (arith, c.type_inv.line (p + 2)))
+    c.index-three.result.now (omega arith) c.requires.built.runs c.requires.memory (omega (arith, c.type_inv.line (p + 2)))
     (omega arith) c.index-three.ensures c.if-three-lt256.false w2 in
     let inside = in_table m mem c.index-three.result.now (get_or l (p + 3) 0) c.requires.memory w3.row
     (omega (arith, c.type_inv.line (p + 3))) in
@@ -81,16 +81,16 @@ loop-place-preserved g c =
     let w0 = c.loop-place.invariant in
     let more : p + 4 < length l = omega (arith, c.loop-place-test.true) in
     let w1 = walking_read m mem l c.args.from c.args.state p (p + 1) c.loop-place.at
-    c.index-one.result.now (omega arith) c.requires.runs c.requires.memory (omega (arith, c.type_inv.line p))
+    c.index-one.result.now (omega arith) c.requires.built.runs c.requires.memory (omega (arith, c.type_inv.line p))
     (omega arith) c.index-one.ensures c.if-one-lt256.false w0 in
     let w2 = walking_read m mem l c.args.from c.args.state (p + 1) (p + 2) c.index-one.result.now
-    c.index-two.result.now (omega arith) c.requires.runs c.requires.memory (omega (arith, c.type_inv.line (p + 1)))
+    c.index-two.result.now (omega arith) c.requires.built.runs c.requires.memory (omega (arith, c.type_inv.line (p + 1)))
     (omega arith) c.index-two.ensures c.if-two-lt256.false w1 in
     let w3 = walking_read m mem l c.args.from c.args.state (p + 2) (p + 3) c.index-two.result.now
-    c.index-three.result.now (omega arith) c.requires.runs c.requires.memory (omega (arith, c.type_inv.line (p + 2)))
+    c.index-three.result.now (omega arith) c.requires.built.runs c.requires.memory (omega (arith, c.type_inv.line (p + 2)))
     (omega arith) c.index-three.ensures c.if-three-lt256.false w2 in
     let w4 = walking_read m mem l c.args.from c.args.state (p + 3) (p + 4) c.index-three.result.now
-    c.index-four.result.now (omega arith) c.requires.runs c.requires.memory (omega (arith, c.type_inv.line (p + 3)))
+    c.index-four.result.now (omega arith) c.requires.built.runs c.requires.memory (omega (arith, c.type_inv.line (p + 3)))
     (omega arith) c.index-four.ensures c.if-four-lt256.false w3 in
     w4
 
@@ -99,33 +99,9 @@ loop-place-2-preserved g c =
     let p = c.loop-place-2.place in
     let more : p + 1 < length c.args.line.now = omega (arith, c.loop-place-2-test.true) in
     walking_read (nfa c.args.self.now) (remembered c.args.memory.now) c.args.line.now c.args.from c.args.state p (p + 1)
-    c.loop-place-2.at c.index-next.result.now (omega arith) c.requires.runs c.requires.memory
+    c.loop-place-2.at c.index-next.result.now (omega arith) c.requires.built.runs c.requires.memory
     (omega (arith, c.type_inv.line p)) more c.index-next.ensures c.if-next-lt256.false c.loop-place-2.invariant
 
 pub loop-place-init : goal.loop-place-init
 loop-place-init g c =
     record { within = c.requires.from_in; onward = omega arith; row = c.requires.row; stands = λ start le s. s }
-
-pub returns-after-loop-place-2-clause-within : goal.returns-after-loop-place-2-clause-within
-returns-after-loop-place-2-clause-within g c = c.loop-place-2.invariant.within
-
-pub returns-after-loop-place-2-clause-onward : goal.returns-after-loop-place-2-clause-onward
-returns-after-loop-place-2-clause-onward g c = c.loop-place-2.invariant.onward
-
-pub returns-after-loop-place-2-clause-row : goal.returns-after-loop-place-2-clause-row
-returns-after-loop-place-2-clause-row g c = c.loop-place-2.invariant.row
-
-pub returns-after-loop-place-2-clause-stands : goal.returns-after-loop-place-2-clause-stands
-returns-after-loop-place-2-clause-stands g c = c.loop-place-2.invariant.stands
-
-pub returns-then-next-lt256-clause-within : goal.returns-then-next-lt256-clause-within
-returns-then-next-lt256-clause-within g c = c.loop-place-2.invariant.within
-
-pub returns-then-next-lt256-clause-onward : goal.returns-then-next-lt256-clause-onward
-returns-then-next-lt256-clause-onward g c = c.loop-place-2.invariant.onward
-
-pub returns-then-next-lt256-clause-row : goal.returns-then-next-lt256-clause-row
-returns-then-next-lt256-clause-row g c = c.loop-place-2.invariant.row
-
-pub returns-then-next-lt256-clause-stands : goal.returns-then-next-lt256-clause-stands
-returns-then-next-lt256-clause-stands g c = c.loop-place-2.invariant.stands

@@ -69,15 +69,6 @@ overflow_add-row g c = omega arith
 pub index-requires-2 : goal.index-requires-2
 index-requires-2 g c = omega arith
 
-pub clear-requires : goal.clear-requires
-clear-requires g c = c.requires.good
-
-pub fetch-requires-clause-good : goal.fetch-requires-clause-good
-fetch-requires-clause-good g c = c.loop-k.invariant.loading.good
-
-pub returns-clause-good : goal.returns-clause-good
-returns-clause-good g c = c.loop-k.invariant.loading.good
-
 pub returns-clause-size : goal.returns-clause-size
 returns-clause-size g c = omega arith
 
@@ -111,6 +102,3 @@ loop-k-init g c =
       };
       added = c.clear.ensures.added;
     }
-
-pub returns-clause-added : goal.returns-clause-added
-returns-clause-added g c = c.loop-k.invariant.added

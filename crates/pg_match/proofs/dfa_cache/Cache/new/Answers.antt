@@ -1,4 +1,3 @@
-use Rattle.std.proofs.lemmas.Result.{IfOk-from_err}
 use Rattle.std.proofs.Common.{◌≡◌, Bool, Option, None, Some, ◌∙◌, arith, refl, sym, rules}
 use Rattle.pg_match.proofs.CacheLemmas.{blank_table, zeros, nones}
 use Rattle.pg_match.proofs.dfa_cache.Cache.new.Goals as goal
@@ -27,20 +26,5 @@ returns g c =
 pub overflow_mul-vec : goal.overflow_mul-vec
 overflow_mul-vec g c = omega arith
 
-pub returns-in_err-steps : goal.returns-in_err-steps
-returns-in_err-steps g c = IfOk-from_err c.from_residual.result _ c.from_residual.ensures.0
-
-pub returns-in_err-ends : goal.returns-in_err-ends
-returns-in_err-ends g c = IfOk-from_err c.from_residual-in_err-ends.result _ c.from_residual-in_err-ends.ensures.0
-
-pub returns-in_err-fresh : goal.returns-in_err-fresh
-returns-in_err-fresh g c = IfOk-from_err c.from_residual-in_err-fresh.result _ c.from_residual-in_err-fresh.ensures.0
-
-pub returns-in_err-pool : goal.returns-in_err-pool
-returns-in_err-pool g c = IfOk-from_err c.from_residual-in_err-pool.result _ c.from_residual-in_err-pool.ensures.0
-
 pub overflow_add-vec : goal.overflow_add-vec
 overflow_add-vec g c = omega arith
-
-pub returns-in_err-cuts : goal.returns-in_err-cuts
-returns-in_err-cuts g c = IfOk-from_err c.from_residual-in_err-cuts.result _ c.from_residual-in_err-cuts.ensures.0

@@ -15,15 +15,3 @@ returns-clause-exact g c =
     let Q : Bounds → Type 0 = λ b. IsTrue result ↔ HasHit patterns b line in
     let same = ap nfa c.deref-automaton.ensures ∙ c.self.view_is in
     subst Q is.same_bounds (subst P same (c.selects.ensures.exact patterns) is.agrees)
-
-pub selects-requires-clause-short : goal.selects-requires-clause-short
-selects-requires-clause-short g c = c.requires.short
-
-pub selects-requires-clause-runs : goal.selects-requires-clause-runs
-selects-requires-clause-runs g c = rw c.deref-automaton.ensures c.self.invariant.0
-
-pub selects-requires-clause-seeds : goal.selects-requires-clause-seeds
-selects-requires-clause-seeds g c = rw c.deref-automaton.ensures c.self.invariant.1
-
-pub selects-requires-clause-starts : goal.selects-requires-clause-starts
-selects-requires-clause-starts g c = rw c.deref-automaton.ensures c.self.invariant.2

@@ -1,4 +1,3 @@
-use Rattle.std.proofs.lemmas.Result.{IfOk-from_err}
 use Rattle.std.proofs.Common.{◌≡◌, ◌∙◌, ap, length, subst, sym}
 use Rattle.std.specs.Arc.{arc_value}
 use Rattle.pg_match.specs.StateSets.{HaveRoom}
@@ -6,27 +5,6 @@ use Rattle.pg_match.specs.Views.{nfa, buffers}
 use Rattle.pg_match.proofs.AnchoredLemmas.{blank_anchored}
 use Rattle.pg_match.proofs.CacheLemmas.{new_remembers}
 use Rattle.pg_match.proofs.machine.Scratch.prepare.Goals as goal
-
-pub returns-in_err-automaton-clause-fits : goal.returns-in_err-automaton-clause-fits
-returns-in_err-automaton-clause-fits g c = IfOk-from_err c.from_residual.result _ c.from_residual.ensures.0
-
-pub returns-in_err-automaton-clause-visits : goal.returns-in_err-automaton-clause-visits
-returns-in_err-automaton-clause-visits g c = IfOk-from_err c.from_residual.result _ c.from_residual.ensures.0
-
-pub returns-in_err-automaton-clause-added : goal.returns-in_err-automaton-clause-added
-returns-in_err-automaton-clause-added g c = IfOk-from_err c.from_residual.result _ c.from_residual.ensures.0
-
-pub returns-in_err-sets-clause-fits : goal.returns-in_err-sets-clause-fits
-returns-in_err-sets-clause-fits g c =
-    IfOk-from_err c.from_residual-in_err-sets.result _ c.from_residual-in_err-sets.ensures.0
-
-pub returns-in_err-sets-clause-visits : goal.returns-in_err-sets-clause-visits
-returns-in_err-sets-clause-visits g c =
-    IfOk-from_err c.from_residual-in_err-sets.result _ c.from_residual-in_err-sets.ensures.0
-
-pub returns-in_err-sets-clause-added : goal.returns-in_err-sets-clause-added
-returns-in_err-sets-clause-added g c =
-    IfOk-from_err c.from_residual-in_err-sets.result _ c.from_residual-in_err-sets.ensures.0
 
 pub invariant_of-result : goal.invariant_of-result
 invariant_of-result g c =

@@ -43,9 +43,6 @@ loop-k-init g c =
       left = λ q some. (some, λ j lt. absurd (omega arith));
     }
 
-pub returns-clause-size : goal.returns-clause-size
-returns-clause-size g c = c.loop-k.invariant.size
-
 pub index-state-requires : goal.index-state-requires
 index-state-requires g c =
     let old = members c.args.self.now in
@@ -63,6 +60,3 @@ returns-clause-empty g c = (
     | inr none ↦ omega arith
   ],
 )
-
-pub returns-clause-added : goal.returns-clause-added
-returns-clause-added g c = c.loop-k.invariant.same_added

@@ -1,5 +1,5 @@
 use Rattle.std.proofs.Common.{rules}
-use Rattle.pg_lines.specs.Search.{terminator}
+use Rattle.pg_selection.specs.Search.{terminator}
 use Rattle.pg_seq.specs.History.{plan}
 use Rattle.pg_seq.proofs.BeginLemmas.{shape_of}
 use Rattle.pg_round.proofs.DrainLemmas.{handed_safe}
@@ -10,12 +10,3 @@ returns-clause-safe g c = λ past st. handed_safe past st.room (shape_of (termin
 
 pub returns-clause-drained : goal.returns-clause-drained
 returns-clause-drained g c = search rules
-
-pub returns-clause-cause : goal.returns-clause-cause
-returns-clause-cause g c = c.drain.ensures.cause
-
-pub returns-clause-no_failure : goal.returns-clause-no_failure
-returns-clause-no_failure g c = c.drain.ensures.no_failure
-
-pub returns-clause-never_falls : goal.returns-clause-never_falls
-returns-clause-never_falls g c = c.drain.ensures.never_falls

@@ -1,5 +1,5 @@
 use Rattle.std.proofs.Common.{sym, ap, ◌∙◌}
-use Rattle.pg_lines.specs.Search.{terminator}
+use Rattle.pg_selection.specs.Search.{terminator}
 use Rattle.pg_blocks.specs.Lines.{lines}
 use Rattle.pg_rows.specs.Pieces.{cut_at}
 use Rattle.pg_rows.proofs.PieceLemmas.{cut_unlimited, no_limit}

@@ -1,6 +1,6 @@
 use Rattle.std.proofs.Common.{◌≡◌, ℕ, List, ◌∷◌, [], ◌++◌, nat_lt, sym, ap, ◌∙◌}
 use Rattle.std.specs.Fmt.{decimal}
-use Rattle.pg_lines.specs.Search.{Search}
+use Rattle.pg_selection.specs.Search.{Search}
 use Rattle.pg_rows.specs.declared.format.EndRow.{EndRow}
 use Rattle.pg_rows.specs.declared.format.EndRow.TheVariants.{None as NoRow, Count as CountRow, Name as NameRow}
 use Rattle.pg_rows.specs.declared.format.Format.{Format}

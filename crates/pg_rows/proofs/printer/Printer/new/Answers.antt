@@ -1,7 +1,7 @@
 use Rattle.std.proofs.Common.{◌-◌, refl, sym, ap, ◌∙◌, arith}
 use Rattle.std.proofs.Math.Seq.{drop-nil}
 use Rattle.circular_buffer.specs.Buffer.{keep_last}
-use Rattle.pg_lines.specs.Search.{terminator, terminator_of}
+use Rattle.pg_selection.specs.Search.{terminator, terminator_of}
 use Rattle.pg_rows.specs.Output.{context}
 use Rattle.pg_rows.specs.Window.{lines_in}
 use Rattle.pg_rows.proofs.printer.Printer.new.Goals as goal

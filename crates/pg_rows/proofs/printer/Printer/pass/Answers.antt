@@ -1,7 +1,7 @@
 use Rattle.std.proofs.Common.{◌≡◌, ℕ, ◌++◌, sym, ap, ◌∙◌, subst}
 use Rattle.std.specs.Arc.{arc_value}
 use Rattle.circular_buffer.specs.Buffer.{keep_last}
-use Rattle.pg_lines.specs.Search.{terminator}
+use Rattle.pg_selection.specs.Search.{terminator}
 use Rattle.pg_blocks.specs.Lines.{lines}
 use Rattle.pg_rows.specs.Output.{context}
 use Rattle.pg_rows.specs.Window.{held, lines_from, IsWindow}

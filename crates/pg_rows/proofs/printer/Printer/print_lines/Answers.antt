@@ -2,8 +2,8 @@ use Rattle.std.proofs.Common.{◌≡◌, ℕ, ◌+◌, ◌-◌, ◌≤◌, ◌<�
 use Rattle.std.proofs.Common.{◌∙◌, subst, arith, length-drop}
 use Rattle.std.proofs.lemmas.List.{take_rest}
 use Rattle.std.proofs.lemmas.Result.{IfOk-from_err}
-use Rattle.pg_lines.specs.Search.{Search, terminator, terminator_of}
-use Rattle.pg_lines.specs.Searched.{Searched, lines_of}
+use Rattle.pg_selection.specs.Search.{Search, terminator, terminator_of}
+use Rattle.pg_selection.specs.Searched.{Searched, lines_of}
 use Rattle.pg_blocks.specs.Lines.{lines}
 use Rattle.pg_rows.specs.declared.format.Format.{Format}
 use Rattle.pg_rows.specs.declared.printer.Printer.{Printer}

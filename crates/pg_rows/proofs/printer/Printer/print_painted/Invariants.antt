@@ -1,5 +1,5 @@
 use Rattle.std.proofs.Common.{◌≡◌, ◌+◌, ◌-◌, ◌≤◌, true, length, drop}
-use Rattle.pg_lines.specs.Search.{Search}
+use Rattle.pg_selection.specs.Search.{Search}
 use Rattle.pg_blocks.specs.Lines.{lines}
 use Rattle.pg_rows.specs.Painting.{AreToldParts}
 use Rattle.pg_rows.proofs.PaintLemmas.{AreToPrint}

@@ -1,11 +1,11 @@
 use Rattle.std.proofs.Common.{◌≡◌, ℕ, ◌+◌, true, List, length, not, sym, ap, ◌∙◌, arith}
 use Rattle.std.proofs.lemmas.Bool.{and_parts, and_right, not_from_true}
-use Rattle.pg_lines.specs.Search.{Search, terminator, HasItsTrees}
-use Rattle.pg_lines.specs.Searched.{Searched, lines_of}
-use Rattle.pg_lines.specs.Runs.{HasRuns}
-use Rattle.pg_lines.specs.BlockParts.{HasParts}
-use Rattle.pg_lines.specs.declared.run.Run.{Run}
-use Rattle.pg_lines.specs.declared.run.Part.{Part}
+use Rattle.pg_selection.specs.Search.{Search, terminator, HasItsTrees}
+use Rattle.pg_selection.specs.Searched.{Searched, lines_of}
+use Rattle.pg_selection.specs.Runs.{HasRuns}
+use Rattle.pg_selection.specs.BlockParts.{HasParts}
+use Rattle.pg_selection.specs.declared.run.Run.{Run}
+use Rattle.pg_selection.specs.declared.run.Part.{Part}
 use Rattle.pg_blocks.specs.Lines.{lines}
 use Rattle.pg_rows.specs.declared.format.Format.{Format}
 use Rattle.pg_rows.specs.declared.printer.Printer.{Printer}

@@ -1,8 +1,8 @@
 use Rattle.std.proofs.Common.{◌≡◌, ℕ, ◌+◌, ◌<◌, inl, inr, List, length, drop, get_or, refl, sym, ap, ◌∙◌, subst}
 use Rattle.std.proofs.Common.{arith}
 use Rattle.std.proofs.lemmas.List.{drop_all}
-use Rattle.pg_lines.specs.Search.{terminator}
-use Rattle.pg_lines.specs.Searched.{lines_of}
+use Rattle.pg_selection.specs.Search.{terminator}
+use Rattle.pg_selection.specs.Searched.{lines_of}
 use Rattle.pg_rows.specs.declared.printer.Printer.{Printer}
 use Rattle.pg_base.specs.Sink.{WritesPart}
 use Rattle.pg_rows.specs.Window.{held}

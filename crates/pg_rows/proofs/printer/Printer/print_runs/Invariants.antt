@@ -1,6 +1,6 @@
 use Rattle.std.proofs.Common.{◌≡◌, ◌+◌, ◌<◌, ◌≤◌, drop, length}
-use Rattle.pg_lines.specs.Search.{Search}
-use Rattle.pg_lines.specs.Searched.{lines_of}
+use Rattle.pg_selection.specs.Search.{Search}
+use Rattle.pg_selection.specs.Searched.{lines_of}
 use Rattle.pg_rows.specs.declared.format.Format.{Format}
 use Rattle.pg_rows.specs.Cursor.{Cursor}
 use Rattle.pg_rows.specs.Remembered.{IsAtCursor}

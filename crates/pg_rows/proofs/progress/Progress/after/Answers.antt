@@ -1,8 +1,8 @@
 use Rattle.std.proofs.Common.{◌≡◌, ◌+◌, ◌-◌, ◌<◌, min, List, [], drop, get_or, refl, sym, ap, ◌∙◌, subst, arith}
 use Rattle.std.proofs.lemmas.List.{drop_more, drop_all}
 use Rattle.pg_blocks.specs.Lines.{lines}
-use Rattle.pg_lines.specs.Search.{terminator}
-use Rattle.pg_lines.specs.declared.run.Run.{Run}
+use Rattle.pg_selection.specs.Search.{terminator}
+use Rattle.pg_selection.specs.declared.run.Run.{Run}
 use Rattle.pg_rows.proofs.BlockLemmas.{no_run, IsReached, IsRoom, reached_none, reached_all, reached_full, reached_more}
 use Rattle.pg_rows.proofs.progress.Progress.after.Goals as goal
 

@@ -1,8 +1,8 @@
 use Rattle.std.proofs.Common.{◌≡◌, ℕ, ◌+◌, ◌≤◌, List, length, drop}
 use Rattle.pg_blocks.specs.Lines.{lines}
-use Rattle.pg_lines.specs.Search.{Search, terminator}
+use Rattle.pg_selection.specs.Search.{Search, terminator}
 use Rattle.pg_rows.specs.Trail.{Trail}
-use Rattle.pg_lines.specs.Runs.{AreRuns}
+use Rattle.pg_selection.specs.Runs.{AreRuns}
 use Rattle.pg_rows.specs.Progress.{IsOfTrail}
 use Rattle.pg_rows.proofs.BlockLemmas.{IsReached}
 use Rattle.pg_rows.proofs.progress.Progress.after.Given as goal

@@ -2,9 +2,6 @@ use Rattle.std.proofs.Common.{◌≡◌, true, false, [], cond, refl, sym, ap, �
 use Rattle.pg_rows.specs.Window.{held, lines_in}
 use Rattle.pg_rows.proofs.window.Window.clear_unless.Goals as goal
 
-pub returns-then-not-fresh-clause-size : goal.returns-then-not-fresh-clause-size
-returns-then-not-fresh-clause-size g c = c.clear.ensures.size
-
 pub returns-then-not-fresh-clause-window : goal.returns-then-not-fresh-clause-window
 returns-then-not-fresh-clause-window g c end _ = c.clear.ensures.window end
 

@@ -1,7 +1,7 @@
 use Rattle.std.proofs.Common.{◌≡◌, ◌∙◌, ◌∷◌, ◌++◌, [], ap, map, subst, sym}
 use Rattle.std.specs.Arc.{arc_value}
 use Rattle.std.proofs.lemmas.List.{map-append}
-use Rattle.pg_lines.specs.Search.{terminator}
+use Rattle.pg_selection.specs.Search.{terminator}
 use Rattle.pg_blocks.specs.Blocks.{BlockData}
 use Rattle.pg_seq.specs.Plan.{Announces, MayFollow}
 use Rattle.pg_seq.specs.History.{plan, planned}

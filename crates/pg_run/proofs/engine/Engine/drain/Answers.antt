@@ -31,9 +31,3 @@ pub invariant_of-self : goal.invariant_of-self
 invariant_of-self g c =
     let s = c.args.self.now in
     record { fits = s.fits; scratches_fit = s.scratches_fit; endless = s.endless; at_once = s.at_once; few = s.few }
-
-pub returns-in_err-drain-clause-none : goal.returns-in_err-drain-clause-none
-returns-in_err-drain-clause-none g c = c.requires.none
-
-pub returns-clause-none : goal.returns-clause-none
-returns-clause-none g c = c.requires.none

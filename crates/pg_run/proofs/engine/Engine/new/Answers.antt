@@ -1,53 +1,29 @@
 use Rattle.std.proofs.Common.{◌≡◌, ◌∙◌, ap, arith, length, map, refl, subst, sym}
 use Rattle.std.specs.Arc.{arc_value}
-use Rattle.pg_lines.specs.Search.{SearchText, AreTreesOf, search_of}
+use Rattle.pg_selection.specs.Search.{SearchText, AreTreesOf, search_of}
 use Rattle.pg_rows.specs.declared.format.Format.{Format}
 use Rattle.pg_seq.specs.History.{start}
 use Rattle.pg_seq.specs.Standing.{IsAfter}
 use Rattle.pg_run.proofs.HoldLemmas.{holds_new}
-use Rattle.std.proofs.lemmas.Result.{IfOk-from_err}
 use Rattle.pg_run.proofs.engine.Engine.new.Goals as goal
 
 pub returns : goal.returns
 returns g c = λ aim trees text set.
-    let own : (arc_value c.in_ok-query.query).text ≡ aim.query.text =
-    ap (λ q. q.text) c.in_ok-query.ensures.ok ∙ sym text in
-    let same : (arc_value c.in_ok-try_clone.field-0).text ≡ aim.query.text =
-    ap (λ q. q.text) c.in_ok-try_clone.ensures ∙ own in
+    let own : c.args.query.text ≡ aim.query.text = sym text in
+    let same : arc_value c.in_ok-try_clone.field-0 ≡ aim.query.text =
+    c.in_ok-try_clone.ensures ∙ (c.selector.ensures ∙ own) in
     let T : SearchText → Type 0 = λ t. AreTreesOf t aim.query.trees in
     let S : SearchText → Type 0 =
     λ t. IsAfter c.in_ok-sequencer.sequencer (start (search_of t aim.query.trees) c.args.setup.format) in
     let F : Format → Type 0 = λ f. IsAfter c.in_ok-sequencer.sequencer (start aim.query f) in
     let stands = subst S same (c.in_ok-sequencer.ensures aim.query.trees (subst T (sym same) trees)) in
-    holds_new _ aim own (sym set) refl (ap (λ xs. map arc_value xs) c.new-4.ensures.items)
+    holds_new _ aim own (sym set) refl (ap (λ xs. map arc_value xs) c.new-3.ensures.items)
     (subst F (ap (λ s. s.format) (sym set)) stands)
 
 pub invariant_of-result-clause-scratches_fit : goal.invariant_of-result-clause-scratches_fit
 invariant_of-result-clause-scratches_fit g c =
-    let none = ap length c.new-3.ensures.items in
+    let none = ap length c.new-2.ensures.items in
     (omega (arith, none), λ k d below. absurd (omega (arith, none, below)))
 
-pub returns-in_err-query : goal.returns-in_err-query
-returns-in_err-query g c = IfOk-from_err c.from_residual.result _ c.from_residual.ensures.0
-
-pub returns-in_err-try_clone : goal.returns-in_err-try_clone
-returns-in_err-try_clone g c =
-    IfOk-from_err c.from_residual-in_err-try_clone.result _ c.from_residual-in_err-try_clone.ensures.0
-
-pub returns-in_err-sequencer : goal.returns-in_err-sequencer
-returns-in_err-sequencer g c =
-    IfOk-from_err c.from_residual-in_err-sequencer.result _ c.from_residual-in_err-sequencer.ensures.0
-
-pub returns-in_err-scratch : goal.returns-in_err-scratch
-returns-in_err-scratch g c =
-    IfOk-from_err c.from_residual-in_err-scratch.result _ c.from_residual-in_err-scratch.ensures.0
-
-pub invariant_of-result-clause-fits : goal.invariant_of-result-clause-fits
-invariant_of-result-clause-fits g c =
-    c.in_ok-scratch.ensures ∙ ap (λ q. q.machine) c.deref-2.ensures
-
-pub invariant_of-result-clause-endless : goal.invariant_of-result-clause-endless
-invariant_of-result-clause-endless g c = c.is_spread-spread.ensures
-
 pub invariant_of-result-clause-at_once : goal.invariant_of-result-clause-at_once
-invariant_of-result-clause-at_once g c = λ spread. c.new-4.ensures.items
+invariant_of-result-clause-at_once g c = λ spread. c.new-3.ensures.items

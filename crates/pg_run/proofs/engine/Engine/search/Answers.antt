@@ -13,20 +13,8 @@ returns-in_err-kept g c = λ aim steps ready.
     fails_by c.from_residual-in_err-kept.result _ _ c.from_residual-in_err-kept.ensures.1
     (broke_step ready.0 (Announces c.args.block) ready.1)
 
-pub add-requires-clause-spread : goal.add-requires-clause-spread
-add-requires-clause-spread g c = c.if-self.true
-
 pub add-requires-clause-room : goal.add-requires-clause-room
 add-requires-clause-room g c = c.requires.room c.if-self.true
-
-pub add-requires-clause-ready : goal.add-requires-clause-ready
-add-requires-clause-ready g c = c.requires.ready
-
-pub take-requires-clause-at_once : goal.take-requires-clause-at_once
-take-requires-clause-at_once g c = c.if-self.false
-
-pub take-requires-clause-ready : goal.take-requires-clause-ready
-take-requires-clause-ready g c = c.requires.ready
 
 pub drain-requires : goal.drain-requires
 drain-requires g c = record { none = c.in_ok-kept.ensures.none }

@@ -16,9 +16,9 @@ use Rattle.pg_run.proofs.engine.Engine.search_round.Goals as goal
 pub search_round-requires-clause-short : goal.search_round-requires-clause-short
 search_round-requires-clause-short g c κs within =
     let h = c.requires.holds.2 in
-    let text = (arc_value c.args.self.now.query).text in
+    let text = c.args.self.now.query.text in
     let S : List (Arc BlockData g.row.A.Denot) → Type 0 = λ xs. All (HasShortLines text) xs in
-    subst S (sym c.deref-2.ensures.value) (short_round h text h.same)
+    subst S (sym c.deref.ensures.value) (short_round h text h.same)
 
 pub returns-in_err-equip-clause-empties : goal.returns-in_err-equip-clause-empties
 returns-in_err-equip-clause-empties g c = record {
@@ -51,18 +51,18 @@ returns-clause-empties g c = record {
   outcome = λ aim steps h.
       let out' = g.W.Sink.stream c.search_round.new.out in
       let past = past_of aim.query (format_of aim) h.events h.written in
-      let text = (arc_value c.args.self.now.query).text in
+      let text = c.args.self.now.query.text in
       let R : List (Arc BlockData g.row.A.Denot) → Type 0 =
       λ xs. HasRound (IsAfter c.search_round.new.collector) past text xs (g.W.Sink.stream c.args.out.now).taken
       out'.taken in
       round_done h _ out' h.same h.set h.count (ap (λ xs. map arc_value xs) c.clear.ensures.items) text h.same
-      (subst R c.deref-2.ensures.value (c.in_ok-search_round.ensures.ok past h.stands refl (safe_now h)))
+      (subst R c.deref.ensures.value (c.in_ok-search_round.ensures.ok past h.stands refl (safe_now h)))
       c.in_ok-search_round.ensures.calm;
 }
 
 pub search_round-requires-clause-fits : goal.search_round-requires-clause-fits
 search_round-requires-clause-fits g c κs within = λ k d below.
-    c.in_ok-equip.ensures.scratches.1 k d below ∙ ap (λ q. q.machine) c.deref.ensures
+    c.in_ok-equip.ensures.scratches.1 k d below
 
 pub invariant_of-self : goal.invariant_of-self
 invariant_of-self g c =
@@ -116,9 +116,8 @@ few_scratches len scratches same few = omega arith
 
 pub equip-requires-clause-scratches : goal.equip-requires-clause-scratches
 equip-requires-clause-scratches g c =
-    let F : List Room → Type 0 = λ xs. AreScratches 65 (arc_value c.args.self.now.query).machine xs in
-    let held = subst F (sym (ap (λ v. v.items) c.replace-scratches.ensures.value)) c.args.self.now.scratches_fit in
-    (held.0, λ k d below. held.1 k d below ∙ sym (ap (λ q. q.machine) c.deref.ensures))
+    let F : List Room → Type 0 = λ xs. AreScratches 65 c.args.self.now.query.machine xs in
+    subst F (sym (ap (λ v. v.items) c.replace-scratches.ensures.value)) c.args.self.now.scratches_fit
 
 pub search_round-requires-clause-few : goal.search_round-requires-clause-few
 search_round-requires-clause-few g c κs within =
@@ -126,7 +125,7 @@ search_round-requires-clause-few g c κs within =
     let scratches = c.equip.new.scratches in (
       some_scratch _ _ scratches.ok.0 c.in_ok-equip.ensures.some,
       few_scratches _ _ scratches.ok.0 c.in_ok-equip.ensures.scratches.0,
-      few_blocks _ _ engine.setup.round (ap length c.deref-2.ensures.value) engine.few engine.setup.round_in_range.1,
+      few_blocks _ _ engine.setup.round (ap length c.deref.ensures.value) engine.few engine.setup.round_in_range.1,
       c.workers-workers.ensures,
     )
 
@@ -136,20 +135,5 @@ search_round-requires-clause-sees g c κs within = λ found. refl
 pub search_round-requires-clause-reader : goal.search_round-requires-clause-reader
 search_round-requires-clause-reader g c κs within = c.requires.ready
 
-pub returns-in_err-equip-clause-ready : goal.returns-in_err-equip-clause-ready
-returns-in_err-equip-clause-ready g c = c.requires.ready
-
 pub returns-in_err-equip-clause-read : goal.returns-in_err-equip-clause-read
 returns-in_err-equip-clause-read g c = λ r f before. before
-
-pub returns-in_err-search_round-clause-ready : goal.returns-in_err-search_round-clause-ready
-returns-in_err-search_round-clause-ready g c = c.in_err-search_round.ensures.ready
-
-pub returns-in_err-search_round-clause-read : goal.returns-in_err-search_round-clause-read
-returns-in_err-search_round-clause-read g c = c.in_err-search_round.ensures.read
-
-pub returns-clause-ready : goal.returns-clause-ready
-returns-clause-ready g c = c.in_ok-search_round.ensures.ready
-
-pub returns-clause-read : goal.returns-clause-read
-returns-clause-read g c = c.in_ok-search_round.ensures.read

@@ -1,6 +1,6 @@
 use Rattle.std.proofs.Common.{◌≡◌, ◌∙◌, ap, map, subst, sym}
 use Rattle.std.specs.Arc.{arc_value}
-use Rattle.pg_lines.specs.Search.{terminator}
+use Rattle.pg_selection.specs.Search.{terminator}
 use Rattle.pg_blocks.specs.Blocks.{BlockData}
 use Rattle.pg_seq.specs.Plan.{Announces, MayFollow}
 use Rattle.pg_seq.specs.History.{plan, planned}
@@ -24,7 +24,7 @@ keep-requires g c =
       subst M b (c.in_ok-announce.ensures.ok past h.stands may),
       is_first h c.args.block m c.in_ok-found.found
           (c.in_ok-found.ensures.found
-          ∙ (ap (λ x. record { query = (arc_value c.args.self.now.query).text; block = x }) same
+          ∙ (ap (λ x. record { query = c.args.self.now.query.text; block = x }) same
           ∙ ap (λ x. record { query = x; block = c.args.block }) h.same)),
     )
 
@@ -41,7 +41,7 @@ returns-clause-ok g c = λ aim steps out ready.
     let middle = subst M b (c.in_ok-announce.ensures.ok past h.stands may) in
     let found : c.in_ok-found.found ≡ record { query = aim.query.text; block = c.args.block } =
     c.in_ok-found.ensures.found
-    ∙ (ap (λ x. record { query = (arc_value c.args.self.now.query).text; block = x }) same
+    ∙ (ap (λ x. record { query = c.args.self.now.query.text; block = x }) same
     ∙ ap (λ x. record { query = x; block = c.args.block }) h.same) in
     let none = ap (λ xs. map arc_value xs) (c.args.self.now.at_once c.requires.at_once) in
     holds_block h _ c.args.block c.in_ok-found.found m h.same h.set h.count none none found
@@ -106,9 +106,6 @@ invariant_of-self-2 g c =
     let s = c.args.self.now in
     let fits = c.search_block-answer.ensures.fits in
     record { fits = fits; scratches_fit = s.scratches_fit; endless = s.endless; at_once = s.at_once; few = s.few }
-
-pub search_block-answer-requires-clause-fits : goal.search_block-answer-requires-clause-fits
-search_block-answer-requires-clause-fits g c = c.args.self.now.fits
 
 pub returns-in_err-kept-clause-none : goal.returns-in_err-kept-clause-none
 returns-in_err-kept-clause-none g c = c.args.self.now.at_once c.requires.at_once

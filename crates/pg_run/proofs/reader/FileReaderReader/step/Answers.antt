@@ -41,8 +41,5 @@ returns-then-is_err-clause-reaches g c = λ reader files before.
           recut_by k _ (room.keeps.stands k.fed k.cut) room.came;
     }
 
-pub returns-then-self-eq0-clause-ready : goal.returns-then-self-eq0-clause-ready
-returns-then-self-eq0-clause-ready g c = c.requires
-
 pub returns-then-self-eq0-clause-reaches : goal.returns-then-self-eq0-clause-reaches
 returns-then-self-eq0-clause-reaches g c = λ reader files before. before

@@ -64,7 +64,7 @@ returns-then-is_at_end g c = record {
         got = subst P (e.2 past.query past.format (here s past h) h.writes.cursor) e.1.ok;
         stands = ended_next s past h _ c.if-not-self.false
             (sym c.is_at_end.ensures ∙ c.if-is_at_end.true) c.requires.2
-            (record { query = refl; format = refl; running = refl; bad = refl }) refl refl refl (same_buffer _) refl;
+            (record { selector = refl; format = refl; running = refl; bad = refl }) refl refl refl (same_buffer _) refl;
       };
   fewer = λ e. search rules;
   same = refl;

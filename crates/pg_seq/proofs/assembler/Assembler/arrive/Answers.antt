@@ -6,7 +6,7 @@ use Rattle.pg_seq.proofs.assembler.Assembler.arrive.Goals as goal
 pub returns-in-Taken-clause-stands : goal.returns-in-Taken-clause-stands
 returns-in-Taken-clause-stands g c = λ past h.
     taken_stands c.args.self.now _ past c.args.found h (sym (c.in-Taken.ensures past h))
-    (record { query = refl; format = refl; running = refl; bad = refl })
+    (record { selector = refl; format = refl; running = refl; bad = refl })
     (record { handed = c.put.ensures.handed; printing = refl; printer = refl }) refl refl c.put.ensures
 
 pub returns-in-Double-clause-stands : goal.returns-in-Double-clause-stands

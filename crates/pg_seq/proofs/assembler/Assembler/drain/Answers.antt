@@ -99,7 +99,7 @@ returns-in-Err g c =
             ),
             more_written _ past d.0 b.rows (past.failed || true)
                 (failed_stands c.advance.new.self _ (wrote past d.0) b.rows (past.failed || true) b.stands
-                (record { query = refl; format = refl; running = refl; bad = refl })
+                (record { selector = refl; format = refl; running = refl; bad = refl })
                 (record { handed = refl; printing = refl; printer = refl }) refl
                 (same_buffer _) refl (or_right past.failed true refl)),
           );

@@ -26,8 +26,5 @@ next_ahead-requires g c =
     let past = c.requires in
     (past.0, past.1, c.loop-next.invariant past.0 past.1)
 
-pub loop-next-smaller : goal.loop-next-smaller
-loop-next-smaller g c = c.in-Some.ensures.fewer
-
 pub loop-next-preserved : goal.loop-next-preserved
 loop-next-preserved g c = λ past h. c.in-Some.ensures.further past h (c.loop-next.invariant past h)

@@ -5,5 +5,5 @@ use Rattle.pg_seq.proofs.assembler.Assembler.keep.Goals as goal
 pub returns : goal.returns
 returns g c = λ past h first.
     taken_stands c.args.self.now _ past c.args.found h first
-    (record { query = refl; format = refl; running = refl; bad = refl })
+    (record { selector = refl; format = refl; running = refl; bad = refl })
     (record { handed = c.put.ensures.handed; printing = refl; printer = refl }) refl refl c.put.ensures

@@ -17,15 +17,6 @@ returns-then-is_over g c =
 pub file_ahead-requires : goal.file_ahead-requires
 file_ahead-requires g c = not-true c.args.ahead.inside c.if-not-ahead.true
 
-pub returns-then-not-ahead : goal.returns-then-not-ahead
-returns-then-not-ahead g c = c.file_ahead.ensures
-
-pub block_ahead-requires-clause-stands : goal.block_ahead-requires-clause-stands
-block_ahead-requires-clause-stands g c = c.requires
-
 pub block_ahead-requires-clause-inside : goal.block_ahead-requires-clause-inside
 block_ahead-requires-clause-inside g c =
     (not-false c.args.ahead.inside c.if-not-ahead.false, sym c.is_over.ensures ∙ c.if-is_over.false)
-
-pub returns : goal.returns
-returns g c = c.block_ahead.ensures

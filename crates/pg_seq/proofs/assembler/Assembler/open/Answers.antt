@@ -16,7 +16,7 @@ open_file-requires g c =
 pub returns-in_err-reserve-clause-err : goal.returns-in_err-reserve-clause-err
 returns-in_err-reserve-clause-err g c = λ past h.
     on_err _ c.from_residual-in_err-reserve.result
-    (same_stands c.args.self.now _ past h (record { query = refl; format = refl; running = refl; bad = refl })
+    (same_stands c.args.self.now _ past h (record { selector = refl; format = refl; running = refl; bad = refl })
     (record { handed = refl; printing = refl; printer = refl }) c.reserve.ensures.items (same_buffer _) refl)
 
 pub returns-clause-ok : goal.returns-clause-ok

@@ -12,7 +12,7 @@ returns-in_default g c =
     record {
       opened = λ past h. (
         none_waits c.args.self.now past h c.requires.0 none c.requires.1,
-        same_stands c.args.self.now _ past h (record { query = refl; format = refl; running = refl; bad = refl })
+        same_stands c.args.self.now _ past h (record { selector = refl; format = refl; running = refl; bad = refl })
             (record { handed = refl; printing = refl; printer = refl }) (after ∙ sym none) (same_buffer _) refl,
       );
       fewer = λ e. absurd (cc);
@@ -25,7 +25,7 @@ returns g c =
     record {
       opened = λ past h.
           opened_next c.args.self.now past h _ c.in-Some.next c.requires.0 waits
-          (record { query = refl; format = refl; running = refl; bad = refl }) refl (same_buffer _) refl
+          (record { selector = refl; format = refl; running = refl; bad = refl }) refl (same_buffer _) refl
           (c.open.ensures past.query past.format (here c.args.self.now past h) h.writes.cursor);
       fewer = λ e. omega (arith, ap length waits);
       same = refl;

@@ -1,7 +1,7 @@
 use Rattle.std.proofs.Common.{◌≡◌, ◌∙◌, List, ◌∷◌, ℕ, Some, ap, sym, subst, refl, length, arith}
 use Rattle.std.proofs.lemmas.Result.{MatchResult-from_err, IfOk-from_err}
 use Rattle.pg_blocks.specs.Blocks.{BlockData}
-use Rattle.pg_lines.specs.Searched.{Searched}
+use Rattle.pg_selection.specs.Searched.{Searched}
 use Rattle.pg_rows.specs.declared.printer.Printed.{Printed}
 use Rattle.pg_rows.specs.declared.printer.Printer.{Printer}
 use Rattle.pg_rows.specs.Cursor.{Cursor}
@@ -83,7 +83,7 @@ returns-in_err-printed g c = record {
         got = w.part.2;
         failure = w.failure;
         part = block_part s past h found p c.requires.inside.0 c.requires.inside.1 c.requires.stands.2 _ _ w.part;
-        stands = same_stands s _ past h (record { query = refl; format = refl; running = refl; bad = refl })
+        stands = same_stands s _ past h (record { selector = refl; format = refl; running = refl; bad = refl })
             (record { handed = refl; printing = refl; printer = c.print.ensures.same }) refl (same_buffer _) refl;
       });
   fewer = IfOk-from_err c.from_residual.result _ c.from_residual.ensures.0;
@@ -122,7 +122,7 @@ returns-in-Some-pop_first g c =
             rows = shown_rows q past.format cursor found.block.bytes;
             got = (c.in_ok-printed.ensures.writes q past.format cursor h.writes.cursor h.trees r.0).ok;
             stands = printed_next s past h _ slot found c.requires.inside.0 c.requires.inside.1 c.requires.stands.2
-                result o (record { query = refl; format = refl; running = refl; bad = refl }) refl refl refl
+                result o (record { selector = refl; format = refl; running = refl; bad = refl }) refl refl refl
                 (c.pass.ensures q past.format cursor m.0 m.1);
           };
       fewer = λ e. omega (arith, ap length o.slots);

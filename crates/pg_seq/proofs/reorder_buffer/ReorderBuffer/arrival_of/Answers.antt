@@ -24,9 +24,6 @@ returns-then-place-self g c = λ gone are.
     (all_of gone s.slots.items _ are.count)
     (ap (λ (b : BlockData). b.file) c.block.view_is) (ap (λ (b : BlockData). b.number) c.block.view_is)
 
-pub overflow_sub-at : goal.overflow_sub-at
-overflow_sub-at g c = c.if-place-self.false
-
 pub returns-then-at-len : goal.returns-then-at-len
 returns-then-at-len g c = λ gone are.
     let s = c.args.self.now in

@@ -72,9 +72,6 @@ returns-then-place-self g c =
       selected = refl;
     }
 
-pub overflow_sub-at : goal.overflow_sub-at
-overflow_sub-at g c = c.if-place-self.false
-
 pub index_mut-requires : goal.index_mut-requires
 index_mut-requires g c = omega (arith, c.if-at-len.true, c.len.ensures)
 

@@ -1,4 +1,0 @@
-use Rattle.pg_base.proofs.history.History.push.Goals as goal
-
-pub returns : goal.returns
-returns g c = c.with.ensures

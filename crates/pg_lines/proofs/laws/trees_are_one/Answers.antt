@@ -1,5 +1,0 @@
-use Rattle.pg_lines.specs.Same.{same_query}
-use Rattle.pg_lines.proofs.laws.trees_are_one.Goals as goal
-
-pub returns : goal.returns
-returns c = same_query

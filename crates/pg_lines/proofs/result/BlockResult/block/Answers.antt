@@ -1,6 +1,0 @@
-use Rattle.std.proofs.Common.{ap}
-use Rattle.pg_lines.specs.Searched.{Searched}
-use Rattle.pg_lines.proofs.result.BlockResult.block.Goals as goal
-
-pub returns : goal.returns
-returns g c = ap (λ (s : Searched). s.block) c.self.view_is

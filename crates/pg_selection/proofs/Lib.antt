@@ -1,0 +1,4 @@
+pub mod Examples
+pub mod RunLemmas
+pub mod SameLemmas
+pub mod SelectLemmas

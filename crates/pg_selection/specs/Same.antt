@@ -1,0 +1,148 @@
+-- Queries are compared by their texts: the kind, the pattern lists and the options.
+use Rattle.std.specs.Prelude.{◌≡◌, ℕ, Bool, true, false, ◌&&◌, ◌==◌, List, [], ◌∷◌, refl}
+use Rattle.std.specs.Cmp.{IsEquivalence, on_equiv}
+use Rattle.std.specs.Cmp.Lexicographic.{pointwise}
+use Rattle.std.proofs.Common.{ap, ap₂, sym, subst, ◌∙◌, arith}
+use Rattle.std.proofs.lemmas.Bool.{false≢true, and_parts, and_from, eqb-true, eq-eqb}
+use mathlib.Core.Bool.{beq}
+use Rattle.pg_syntax.specs.Same.{same_patterns, patterns_equal, equivalence_of}
+pub use Rattle.pg_syntax.specs.Same.{TestsEqual}
+use Rattle.pg_syntax.specs.ListResults.{AreSpelled}
+use Rattle.pg_selection.specs.Search.{SearchText, Search, Patterns, Pattern, Kind, Basic, Extended, Fixed}
+use Rattle.pg_selection.specs.Search.{AreTreesOf, HasItsTrees, patterns}
+
+abbrev pub kind_number : Kind → ℕ
+kind_number Basic = 0
+kind_number Extended = 1
+kind_number Fixed = 2
+
+-- kind, lists and options are the same
+unfoldable pub same_text : SearchText → SearchText → Bool
+same_text a b =
+    (kind_number a.kind == kind_number b.kind) && pointwise same_patterns a.lists b.lists && beq a.fold b.fold
+    && beq a.whole b.whole && beq a.word b.word && beq a.invert b.invert && beq a.pieces b.pieces
+    && beq a.zero b.zero
+
+abbrev pub same_search : Search → Search → Bool
+same_search a b = same_text a.text b.text
+
+beq_sound : (a b : Bool) → beq a b ≡ true → a ≡ b
+beq_sound true true e = refl
+beq_sound true false e = absurd (false≢true e)
+beq_sound false true e = absurd (false≢true e)
+beq_sound false false e = refl
+
+beq_complete : (a : Bool) → beq a a ≡ true
+beq_complete true = refl
+beq_complete false = refl
+
+kind_sound : (a b : Kind) → kind_number a ≡ kind_number b → a ≡ b
+kind_sound Basic Basic e = refl
+kind_sound Basic Extended e = absurd (omega arith)
+kind_sound Basic Fixed e = absurd (omega arith)
+kind_sound Extended Basic e = absurd (omega arith)
+kind_sound Extended Extended e = refl
+kind_sound Extended Fixed e = absurd (omega arith)
+kind_sound Fixed Basic e = absurd (omega arith)
+kind_sound Fixed Extended e = absurd (omega arith)
+kind_sound Fixed Fixed e = refl
+
+lists_sound : (a b : List Patterns) → pointwise same_patterns a b ≡ true → a ≡ b
+lists_sound [] [] e = refl
+lists_sound [] (y ∷ ys) e = absurd (false≢true e)
+lists_sound (x ∷ xs) [] e = absurd (false≢true e)
+lists_sound (x ∷ xs) (y ∷ ys) e =
+    let p = and_parts (same_patterns x y) (pointwise same_patterns xs ys) e in
+    ap (λ z. z ∷ xs) (patterns_equal.sound x y p.0) ∙ ap (λ zs. y ∷ zs) (lists_sound xs ys p.1)
+
+lists_complete : (a : List Patterns) → pointwise same_patterns a a ≡ true
+lists_complete [] = refl
+lists_complete (x ∷ xs) =
+    and_from (same_patterns x x) (pointwise same_patterns xs xs) (patterns_equal.complete x) (lists_complete xs)
+
+text_with : (a b : SearchText) → a.kind ≡ b.kind → a.lists ≡ b.lists → a.fold ≡ b.fold → a.whole ≡ b.whole
+    → a.word ≡ b.word → a.invert ≡ b.invert → a.pieces ≡ b.pieces → a.zero ≡ b.zero → a ≡ b
+text_with a b kind lists fold whole word invert pieces zero =
+    let K : Kind → SearchText = λ x. record a { kind = x } in
+    let L : List Patterns → SearchText = λ x. record a { kind = b.kind; lists = x } in
+    let F : Bool → SearchText = λ x. record b {
+      fold = x;
+      whole = a.whole;
+      word = a.word;
+      invert = a.invert;
+      pieces = a.pieces;
+      zero = a.zero;
+    } in
+    let X : Bool → SearchText = λ x. record b {
+      whole = x;
+      word = a.word;
+      invert = a.invert;
+      pieces = a.pieces;
+      zero = a.zero;
+    } in
+    let W : Bool → SearchText = λ x. record b { word = x; invert = a.invert; pieces = a.pieces; zero = a.zero } in
+    let I : Bool → SearchText = λ x. record b { invert = x; pieces = a.pieces; zero = a.zero } in
+    let P : Bool → SearchText = λ x. record b { pieces = x; zero = a.zero } in
+    let Z : Bool → SearchText = λ x. record b { zero = x } in
+    ap K kind ∙ (ap L lists ∙ (ap F fold ∙ (ap X whole ∙ (ap W word ∙ (ap I invert ∙ (ap P pieces ∙ ap Z zero))))))
+
+text_sound : (a b : SearchText) → same_text a b ≡ true → a ≡ b
+unfolding same_text
+text_sound a b e =
+    let p7 = and_parts _ (beq a.zero b.zero) e in
+    let p6 = and_parts _ (beq a.pieces b.pieces) p7.0 in
+    let p5 = and_parts _ (beq a.invert b.invert) p6.0 in
+    let p4 = and_parts _ (beq a.word b.word) p5.0 in
+    let p3 = and_parts _ (beq a.whole b.whole) p4.0 in
+    let p2 = and_parts _ (beq a.fold b.fold) p3.0 in
+    let p1 = and_parts (kind_number a.kind == kind_number b.kind) _ p2.0 in
+    let kind = kind_sound a.kind b.kind (eqb-true _ _ p1.0) in
+    let lists = lists_sound a.lists b.lists p1.1 in
+    let fold = beq_sound a.fold b.fold p2.1 in
+    let whole = beq_sound a.whole b.whole p3.1 in
+    let word = beq_sound a.word b.word p4.1 in
+    let invert = beq_sound a.invert b.invert p5.1 in
+    let pieces = beq_sound a.pieces b.pieces p6.1 in
+    let zero = beq_sound a.zero b.zero p7.1 in
+    text_with a b kind lists fold whole word invert pieces zero
+
+text_complete : (a : SearchText) → same_text a a ≡ true
+unfolding same_text
+text_complete a =
+    let p1 = and_from _ _ (eq-eqb (kind_number a.kind) _ refl) (lists_complete a.lists) in
+    let p2 = and_from _ _ p1 (beq_complete a.fold) in
+    let p3 = and_from _ _ p2 (beq_complete a.whole) in
+    let p4 = and_from _ _ p3 (beq_complete a.word) in
+    let p5 = and_from _ _ p4 (beq_complete a.invert) in
+    let p6 = and_from _ _ p5 (beq_complete a.pieces) in
+    and_from _ _ p6 (beq_complete a.zero)
+
+pub text_equal : TestsEqual same_text
+text_equal = record { sound = text_sound; complete = text_complete }
+
+pub same_text-laws : IsEquivalence same_text
+same_text-laws = equivalence_of text_equal
+
+pub same_search-laws : IsEquivalence same_search
+same_search-laws = on_equiv (λ (q : Search). q.text) same_text-laws
+
+spelled_once : (kind : Kind) (fold : Bool) (texts : List (List ℕ)) (ps qs : List Pattern)
+    → AreSpelled kind fold texts ps → AreSpelled kind fold texts qs → ps ≡ qs
+spelled_once kind fold [] [] [] a b = refl
+spelled_once kind fold [] [] (q ∷ qs) a b = absurd b
+spelled_once kind fold [] (p ∷ ps) qs a b = absurd a
+spelled_once kind fold (t ∷ ts) [] qs a b = absurd a
+spelled_once kind fold (t ∷ ts) (p ∷ ps) [] a b = absurd b
+spelled_once kind fold (t ∷ ts) (p ∷ ps) (q ∷ qs) a b =
+    ap₂ (λ x xs. x ∷ xs) (sym (a.0.only q b.0.spells)) (spelled_once kind fold ts ps qs a.1 b.1)
+
+-- patterns spell one list of trees
+pub same_trees : (text : SearchText) (ps qs : List Pattern) → AreTreesOf text ps → AreTreesOf text qs → ps ≡ qs
+same_trees text = spelled_once text.kind text.fold (patterns text.lists)
+
+-- the text of a query determines its trees
+pub same_query : (q r : Search) → HasItsTrees q → HasItsTrees r → q.text ≡ r.text → q ≡ r
+same_query q r a b e =
+    let P : SearchText → Type 0 = λ t. AreTreesOf t q.trees in
+    let trees : q.trees ≡ r.trees = same_trees r.text q.trees r.trees (subst P e a) b in
+    ap (λ t. record q { text = t }) e ∙ ap (λ ts. record r { trees = ts }) trees
