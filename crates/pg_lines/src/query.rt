@@ -1,5 +1,5 @@
 //! What is searched for.
-ghost use Rattle.std.specs.Prelude.{◌≡◌, ◌<◌, length, map, All, IfOk, IfErr, IfSome, IsTrue};
+ghost use Rattle.std.specs.Prelude.{◌≡◌, ◌↔◌, ◌<◌, length, map, All, IfOk, IfErr, IfSome, IsTrue};
 ghost use Rattle.std.specs.Arc.{arc_value};
 ghost use Rattle.pg_pattern.specs.Patterns.{IsProper};
 ghost use Rattle.pg_pattern.specs.Trees.{pattern};
@@ -174,7 +174,7 @@ fn selector_of<A: Allocator>(
 
 /// Whether the patterns are fixed strings.
 fn is_fixed<A: Allocator>(text: &QueryText<A>) -> bool
-    ensures { IsTrue result → text.now.kind ≡ Fixed }
+    ensures { IsTrue result ↔ (text.now.kind ≡ Fixed) }
 {
     match text.kind {
         Kind::Fixed => true,

@@ -422,16 +422,21 @@ pub in_table : (m : Nfa) (mem : Remembered) (state b : ℕ) → IsMemoryOf m mem
     → state + b < length mem.steps
 in_table m mem state b is s lt = omega (arith, is.shape.steps_size, is.shape.few, s.row, s.known)
 
+-- what is told of the cell of a walk's state and a byte
+told_at : (m : Nfa) (mem : Remembered) (state v b : ℕ) → IsMemoryOf m mem → IsAtRow mem state → b < 256
+    → v ≡ slice_index mem.steps (state + b) → Told m mem (state / 256) b v
+told_at m mem state v b is s lt read =
+    let cell : state + b ≡ 256 * (state / 256) + b = ap (λ u. u + b) s.row in
+    let here : v ≡ slice_index mem.steps (256 * (state / 256) + b) = read ∙ ap (slice_index mem.steps) cell in
+    subst (Told m mem (state / 256) b) (sym here) (is.told (state / 256) b s.known lt)
+
 -- one step of the walk
 pub row_next : (m : Nfa) (mem : Remembered) (state v b : ℕ) → IsMemoryOf m mem → IsAtRow mem state → b < 256
     → v ≡ slice_index mem.steps (state + b) → 256 ≤ v
     → IsAtRow mem v × (HitBefore m b (In mem (state / 256)) → ⊥) × Goes m b (In mem (state / 256)) (In mem (v / 256))
     × (fresh_at mem (v / 256) ≡ true → ReadsNone m b (In mem (state / 256)))
 row_next m mem state v b is s lt read big =
-    let cell : state + b ≡ 256 * (state / 256) + b = ap (λ u. u + b) s.row in
-    let here : v ≡ slice_index mem.steps (256 * (state / 256) + b) = read ∙ ap (slice_index mem.steps) cell in
-    let told = subst (Told m mem (state / 256) b) (sym here) (is.told (state / 256) b s.known lt) in
-    elim told [
+    elim (told_at m mem state v b is s lt read) [
       | inl unknown ↦ absurd (omega (arith, unknown.0))
       | inr rest ↦ elim rest [
         | inl hit ↦ absurd (omega (arith, hit.0))
@@ -651,9 +656,7 @@ learned_lost m old new r b s u from missed goes = (
 pub told_hit : (m : Nfa) (mem : Remembered) (state v b : ℕ) → IsMemoryOf m mem → IsAtRow mem state → b < 256
     → v ≡ slice_index mem.steps (state + b) → v ≡ 1 → HitBefore m b (In mem (state / 256))
 told_hit m mem state v b is s lt read one =
-    let cell : state + b ≡ 256 * (state / 256) + b = ap (λ u. u + b) s.row in
-    let here : v ≡ slice_index mem.steps (256 * (state / 256) + b) = read ∙ ap (slice_index mem.steps) cell in
-    elim (subst (Told m mem (state / 256) b) (sym here) (is.told (state / 256) b s.known lt)) [
+    elim (told_at m mem state v b is s lt read) [
       | inl unknown ↦ absurd (unknown.1 one)
       | inr rest ↦ elim rest [
         | inl hit ↦ hit.1
@@ -666,9 +669,7 @@ told_hit m mem state v b is s lt read one =
 pub told_dead : (m : Nfa) (mem : Remembered) (state v b : ℕ) → IsMemoryOf m mem → IsAtRow mem state → b < 256
     → v ≡ slice_index mem.steps (state + b) → v ≡ 2 → IsHopeless m b (In mem (state / 256))
 told_dead m mem state v b is s lt read two =
-    let cell : state + b ≡ 256 * (state / 256) + b = ap (λ u. u + b) s.row in
-    let here : v ≡ slice_index mem.steps (256 * (state / 256) + b) = read ∙ ap (slice_index mem.steps) cell in
-    elim (subst (Told m mem (state / 256) b) (sym here) (is.told (state / 256) b s.known lt)) [
+    elim (told_at m mem state v b is s lt read) [
       | inl unknown ↦ absurd (unknown.2 two)
       | inr rest ↦ elim rest [
         | inl hit ↦ absurd (omega (arith, hit.0, two))

@@ -1,5 +1,5 @@
 -- Runs of selected lines, and the lines before, in and behind them.
-use Rattle.std.proofs.Common.{◌≡◌, ℕ, ◌+◌, ◌⊎◌, inl, inr, List, [], ◌++◌, append_assoc, sym, ap, ◌∙◌}
+use Rattle.std.proofs.Common.{◌≡◌, ℕ, ◌⊎◌, inl, inr, List, [], ◌++◌, append_assoc, sym, ap, ◌∙◌}
 use Rattle.std.proofs.lemmas.List.{append-nil}
 use Rattle.pg_blocks.specs.Lines.{lines, AreWhole}
 use Rattle.pg_blocks.proofs.LineLemmas.{lines-append}

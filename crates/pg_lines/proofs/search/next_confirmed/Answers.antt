@@ -140,5 +140,6 @@ has_hit-requires-clause-line g c =
     let line = c.in-Found.found.line in
     let next = c.in-Found.ensures.next in
     let text = c.text_of-text.ensures in
-    judges_front c.args.query.now.text c.args.bytes.now c.args.strings.now c.requires.ready.strings c.text_of-text.result.now
+    judges_front c.args.query.now.text c.args.bytes.now c.args.strings.now c.requires.ready.strings
+    c.text_of-text.result.now
     line.start line.end (omega (arith, next.1)) next.2 text.front text.short

@@ -36,7 +36,7 @@ invariant_of-result g c =
         | inl same ↦ subst Heads (sym (ap (λ v. v.items) same)) c.in_ok-literals.ensures.heads
         | inr none ↦ λ some. absurd (omega (arith, some, ap length none))
       ],
-      set_is text c.deref.result.now c.in_ok-literal_set.literal_set c.is_fixed.result c.is_fixed.ensures exact
+      set_is text c.deref.result.now c.in_ok-literal_set.literal_set c.is_fixed.result c.is_fixed.ensures.0 exact
           c.in_ok-literal_set.ensures.strings c.in_ok-literal_set.ensures.fixed
           (prepared_are text c.deref.result.now c.in_ok-literal_set.literal_set seen
           c.in_ok-literal_set.ensures.strings c.in_ok-literal_set.ensures.enough),

@@ -45,7 +45,8 @@ returns-in-Row-clause-crossed g c =
         stands = stands_next (nfa c.args.self.now) l cursor.from cursor.place _
             (In (remembered c.args.memory.now) (cursor.state / 256))
             (In (remembered c.learn.new.memory) (c.in-Row.state / 256))
-            (slice_get-get_or l cursor.place 0 here.within) here.within here.stands learned.2 here.near c.requires.built.runs
+            (slice_get-get_or l cursor.place 0 here.within) here.within here.stands learned.2 here.near
+            c.requires.built.runs
             learned.1;
       },
       (λ run. run, λ run. run),

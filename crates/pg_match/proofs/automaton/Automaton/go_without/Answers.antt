@@ -23,7 +23,8 @@ returns-in-None-clause-crossed g c =
     (found.searched from c.requires.near c.requires.stands) in (
       omega (arith, left.0),
       cursor_back m (remembered c.args.memory.now) l here c.requires.memory (omega (arith, left.0)) found.within,
-      runs_ended m seeds c.requires.built.seeds l from here S (omega (arith, c.requires.near, found.onward)) empty stands,
+      runs_ended m seeds c.requires.built.seeds l from here S (omega (arith, c.requires.near, found.onward)) empty
+          stands,
     )
 
 pub returns-in-Some-clause-crossed : goal.returns-in-Some-clause-crossed

@@ -15,7 +15,8 @@ use Rattle.pg_match.proofs.automaton.Automaton.leave.Goals.{in-Known, in-Known-2
 
 pub go_without-requires-clause-stands : goal.go_without-requires-clause-stands
 go_without-requires-clause-stands g c =
-    stands_begun (nfa c.args.self.now) c.args.self.now.seeds.items c.requires.built.seeds c.args.line.now c.match-skim.start
+    stands_begun (nfa c.args.self.now) c.args.self.now.seeds.items c.requires.built.seeds c.args.line.now
+    c.match-skim.start
     (Has (members c.clear.new.self)) (omega (arith, c.if-start-gt0.true))
     (λ q h. (let e = c.clear.ensures.empty.1 q in omega arith))
 
@@ -43,7 +44,8 @@ returns-then-hits_before-clause-crossed g c = (
       let here = c.requires.cursor in
       let s = stands_at m l cursor.from cursor.place (In (remembered c.args.memory.now) (cursor.state / 256)) S
       c.load.ensures.same here.stands in
-      run_before m l cursor.from cursor.place _ S s c.requires.built.runs (slice_get-get_or l cursor.place 0 here.within)
+      run_before m l cursor.from cursor.place _ S s c.requires.built.runs
+      (slice_get-get_or l cursor.place 0 here.within)
       here.within (c.hits_before.ensures.0 c.if-hits_before.true),
   λ run. refl,
 )
@@ -63,7 +65,8 @@ go_without-requires-2-clause-stands g c =
     let none = plain_whole seeds S in
     stands_next m l from p _ (WithSeeds seeds (IsTrue false) S) _ byte here.within
     (stands_at m l from p S (WithSeeds seeds (IsTrue false) S) none s)
-    (goes_whole m seeds c.requires.built.seeds l p _ _ S (Has (members c.go_on.new.sets.current)) byte c.go_on.ensures.goes)
+    (goes_whole m seeds c.requires.built.seeds l p _ _ S (Has (members c.go_on.new.sets.current)) byte
+    c.go_on.ensures.goes)
     here.near c.requires.built.runs
     (λ h. true≢false (sym (c.hits_before.ensures.1 ((none 0).1 h.0, h.1)) ∙ c.if-hits_before.false))
 

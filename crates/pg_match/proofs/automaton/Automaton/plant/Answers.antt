@@ -13,9 +13,11 @@ insert-requires-clause-within g c =
     let up = c.requires.built.starts.below.upto b byte in
     let lt : c.loop-k.k < length m.starts.targets.items = omega (arith, c.row-first.ensures.last) in
     let read = get_or_read m.starts.targets.items c.loop-k.k _ lt c.index-target.ensures 0 in
-    let w = c.requires.built.starts.below.from b c.loop-k.k byte (omega (arith, c.row-first.ensures.first, c.loop-k.auto.k))
+    let w = c.requires.built.starts.below.from b c.loop-k.k byte
+    (omega (arith, c.row-first.ensures.first, c.loop-k.auto.k))
     (omega (arith, c.row-first.ensures.last)) in
-    let inside = read_inside m.states.items _ b _ c.requires.built.runs.tidy (c.requires.built.seeds.inside w.0 w.1) w.2 in
+    let inside = read_inside m.states.items _ b _ c.requires.built.runs.tidy (c.requires.built.seeds.inside w.0 w.1)
+    w.2 in
     omega (arith, read, inside, c.loop-k.invariant.size, c.requires.size)
 
 pub loop-k-preserved : goal.loop-k-preserved

@@ -2,7 +2,8 @@ use Rattle.std.proofs.Common.{◌+◌, ◌/◌, ◌<◌, length, arith, None}
 use Rattle.std.proofs.lemmas.List.{get_or_read}
 use Rattle.pg_match.specs.Memories.{In}
 use Rattle.pg_match.specs.Views.{nfa, remembered}
-use Rattle.pg_match.proofs.CacheLemmas.{in_table, told_hit, told_dead, row_next, finishes_hit, finishes_dead, finishes_if}
+use Rattle.pg_match.proofs.CacheLemmas.{in_table, told_hit, told_dead, row_next}
+use Rattle.pg_match.proofs.CacheLemmas.{finishes_hit, finishes_dead, finishes_if}
 use Rattle.pg_match.proofs.automaton.Automaton.recall_end.Goals as goal
 
 pub returns-then-next-eq-HIT : goal.returns-then-next-eq-HIT

@@ -72,7 +72,8 @@ loop-place-preserved g c =
       room = c.go_on.ensures.room;
       stands = λ start le s.
           stands_on m l c.args.self.now.seeds.items start p _ _ (Has (members c.loop-place.sets.current))
-          (Has (members c.go_on.new.sets.current)) c.requires.built.seeds c.requires.built.runs (slice_get-get_or l p 0 lt) lt
+          (Has (members c.go_on.new.sets.current)) c.requires.built.seeds c.requires.built.runs
+          (slice_get-get_or l p 0 lt) lt
           (omega arith) c.may_begin-begins.ensures c.go_on.ensures.goes
           (λ h. true≢false (sym (c.hits_here.ensures.1 h) ∙ c.if-hits_here.false))
           (c.loop-place.invariant.stands start le s);

@@ -44,7 +44,8 @@ index-three-requires g c =
     c.index-one.result.now (omega arith) c.requires.built.runs c.requires.memory (omega (arith, c.type_inv.line p))
     (omega arith) c.index-one.ensures c.if-one-lt256.false w0 in
     let w2 = walking_read m mem l c.args.from c.args.state (p + 1) (p + 2) c.index-one.result.now
-    c.index-two.result.now (omega arith) c.requires.built.runs c.requires.memory (omega (arith, c.type_inv.line (p + 1)))
+    c.index-two.result.now (omega arith) c.requires.built.runs c.requires.memory
+    (omega (arith, c.type_inv.line (p + 1)))
     (omega arith) c.index-two.ensures c.if-two-lt256.false w1 in
     let inside = in_table m mem c.index-two.result.now (get_or l (p + 2) 0) c.requires.memory w2.row
     (omega (arith, c.type_inv.line (p + 2))) in
@@ -63,10 +64,12 @@ index-four-requires g c =
     c.index-one.result.now (omega arith) c.requires.built.runs c.requires.memory (omega (arith, c.type_inv.line p))
     (omega arith) c.index-one.ensures c.if-one-lt256.false w0 in
     let w2 = walking_read m mem l c.args.from c.args.state (p + 1) (p + 2) c.index-one.result.now
-    c.index-two.result.now (omega arith) c.requires.built.runs c.requires.memory (omega (arith, c.type_inv.line (p + 1)))
+    c.index-two.result.now (omega arith) c.requires.built.runs c.requires.memory
+    (omega (arith, c.type_inv.line (p + 1)))
     (omega arith) c.index-two.ensures c.if-two-lt256.false w1 in
     let w3 = walking_read m mem l c.args.from c.args.state (p + 2) (p + 3) c.index-two.result.now
-    c.index-three.result.now (omega arith) c.requires.built.runs c.requires.memory (omega (arith, c.type_inv.line (p + 2)))
+    c.index-three.result.now (omega arith) c.requires.built.runs c.requires.memory
+    (omega (arith, c.type_inv.line (p + 2)))
     (omega arith) c.index-three.ensures c.if-three-lt256.false w2 in
     let inside = in_table m mem c.index-three.result.now (get_or l (p + 3) 0) c.requires.memory w3.row
     (omega (arith, c.type_inv.line (p + 3))) in
@@ -84,13 +87,16 @@ loop-place-preserved g c =
     c.index-one.result.now (omega arith) c.requires.built.runs c.requires.memory (omega (arith, c.type_inv.line p))
     (omega arith) c.index-one.ensures c.if-one-lt256.false w0 in
     let w2 = walking_read m mem l c.args.from c.args.state (p + 1) (p + 2) c.index-one.result.now
-    c.index-two.result.now (omega arith) c.requires.built.runs c.requires.memory (omega (arith, c.type_inv.line (p + 1)))
+    c.index-two.result.now (omega arith) c.requires.built.runs c.requires.memory
+    (omega (arith, c.type_inv.line (p + 1)))
     (omega arith) c.index-two.ensures c.if-two-lt256.false w1 in
     let w3 = walking_read m mem l c.args.from c.args.state (p + 2) (p + 3) c.index-two.result.now
-    c.index-three.result.now (omega arith) c.requires.built.runs c.requires.memory (omega (arith, c.type_inv.line (p + 2)))
+    c.index-three.result.now (omega arith) c.requires.built.runs c.requires.memory
+    (omega (arith, c.type_inv.line (p + 2)))
     (omega arith) c.index-three.ensures c.if-three-lt256.false w2 in
     let w4 = walking_read m mem l c.args.from c.args.state (p + 3) (p + 4) c.index-three.result.now
-    c.index-four.result.now (omega arith) c.requires.built.runs c.requires.memory (omega (arith, c.type_inv.line (p + 3)))
+    c.index-four.result.now (omega arith) c.requires.built.runs c.requires.memory
+    (omega (arith, c.type_inv.line (p + 3)))
     (omega arith) c.index-four.ensures c.if-four-lt256.false w3 in
     w4
 
