@@ -53,6 +53,13 @@ def split_arguments(text):
     return [it.strip() for it in found if it.strip()]
 
 
+def name_with_arguments(text, own):
+    """The name of a type or a trait with those of its arguments behind it, but for lifetimes and for these types."""
+    of = re.fullmatch(r"[^<]*<(.*)>", text)
+    arguments = [it for it in split_arguments(of[1]) if it not in own and not it.startswith("'")] if of else []
+    return type_name(text) + "".join(name_with_arguments(it, own) for it in arguments)
+
+
 def impl_name(header):
     """How a check names an impl: that of `Sink for Out` is `OutSink`, of `From<A> for B` it is `BFromA`, and that of
     `Drop for Out` is `Out`, as if it were the type's own. What the impl itself is generic in has no part in it."""
@@ -61,9 +68,13 @@ def impl_name(header):
     made, _, on = header[generics.end() :].removesuffix("{").strip().partition(" for ")
     if not on or made.strip() == "Drop":
         return type_name(on or made)
-    of = re.fullmatch(r"[\w:]+<(.*)>", made.strip())
-    arguments = [it for it in split_arguments(of[1]) if it not in own] if of else []
-    return type_name(on) + type_name(made) + "".join(map(type_name, arguments))
+    return type_name(on) + name_with_arguments(made.strip(), own)
+
+
+def whole_header(lines, number):
+    """The head of the item that begins at a line, up to its brace, in one line."""
+    last = next((at for at in range(number, len(lines)) if lines[at - 1].endswith(("{", "{}"))), number)
+    return " ".join(it.strip() for it in lines[number - 1 : last])
 
 
 def functions_of(file, text):
@@ -72,7 +83,7 @@ def functions_of(file, text):
     inside, found = "", []
     for number, line in enumerate(lines, start=1):
         if re.match(r"(unsafe )?impl\b|(pub )?trait\b", line):
-            header = re.sub(r"^unsafe |^(pub )?trait ", "", line)
+            header = re.sub(r"^unsafe |^(pub )?trait ", "", whole_header(lines, number))
             inside = impl_name(header) if header.startswith("impl") else type_name(re.split(r"[\s:{<]", header)[0])
         elif line == "}":
             inside = ""

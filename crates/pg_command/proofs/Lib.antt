@@ -1,8 +1,5 @@
-pub mod ReadingLemmas
 pub mod RefusalLemmas
 pub mod ShownLemmas
 pub mod StatusLemmas
 pub mod ToldLemmas
 pub mod WorkLemmas
-pub mod GlobFileLemmas
-mod GlobLemmas

@@ -13,7 +13,7 @@ use Rattle.pg_words.specs.declared.words.WordsFault.TheVariants.{Refused, OutOfM
 use Rattle.pg_words.specs.declared.words.WordsFault.TheVariants.{Usage as UsageOfWords}
 use Rattle.pg_command.specs.Command.{Does, RefusesWords, TellsOfWords}
 use Rattle.pg_command.specs.Told.{line_of}
-use Rattle.pg_command.specs.declared.fault.Fault.TheVariants.{OutOfMemory}
+use Rattle.pg_request.specs.declared.fault.Fault.TheVariants.{OutOfMemory}
 
 pub refusal_told : {T : Type 0} (tells : Type 0) (tree : Tree) (terminal : Bool) (past : List Given)
     (out err err' : Stream) (answer : Result ℕ T) (fault : WordsFault) (asked_for : Asks) → IsFault asked_for fault

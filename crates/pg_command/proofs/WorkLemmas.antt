@@ -13,7 +13,7 @@ use Rattle.pg_run.specs.Outcome.{BreaksOff, RunFinishes}
 use Rattle.pg_run.specs.declared.fault.RunFault.{RunFault}
 use Rattle.pg_run.specs.declared.setup.Setup.{Setup}
 use Rattle.pg_command.specs.Answers.{HasReadFor, IsSetup, MayBeNames, Work}
-use Rattle.pg_command.specs.Asked.{Asked, input_name, scope_for, spares_output}
+use Rattle.pg_request.specs.Asked.{Asked, input_name, scope_for, spares_output}
 
 -- what a walk over the operands looks for, behind what was given before
 abbrev pub sought_for : {X : Type 0} → X → Asked → (globs : List (List ℕ)) → List Given → Sought X

@@ -1,39 +1,23 @@
 -- What a search answers, and what it writes.
-use Rattle.std.specs.Prelude.{◌≡◌, ℕ, ◌^◌, ◌⊎◌, Bool, not, ◌&&◌, List, [], ◌∷◌, codes, length, drop, reverse}
-use Rattle.std.specs.Prelude.{Option, Some, None, Result, Ok, Err}
+use Rattle.std.specs.Prelude.{◌≡◌, ℕ, ◌^◌, ◌⊎◌, Bool, List, [], ◌∷◌, codes, length, drop, reverse}
+use Rattle.std.specs.Prelude.{Result, Ok, Err}
 use Rattle.pg_selection.specs.Search.{Search}
 use Rattle.pg_walk.specs.Answers.{Answers as Tree}
 use Rattle.pg_walk.specs.Items.{Found}
-use Rattle.pg_walk.specs.Places.{is_standard_input}
 use Rattle.pg_walk.specs.Left.{BeginsWalk, IsWalk}
-use Rattle.pg_walk.specs.declared.tree.FileKind.{FileKind}
-use Rattle.pg_walk.specs.declared.tree.FileKind.TheVariants.{Regular, Directory, Link, Other}
 use Rattle.pg_files.specs.Given.{FilesPast, Given, names_in}
 use Rattle.pg_files.specs.Listed.{file_paths, files_past, AreOpened, AreSpared}
 use Rattle.pg_base.specs.Sink.{Stream}
 use Rattle.pg_run.specs.Outcome.{IsSearchFor, RunFinishes, BreaksOff}
 use Rattle.pg_run.specs.declared.fault.RunFault.{RunFault}
 use Rattle.pg_run.specs.declared.setup.Setup.{Setup}
-use Rattle.pg_command.specs.Asked.{Asked, glob_files, has_names, input_name, scope_for, spares_output, text_of_query}
+use Rattle.pg_request.specs.Asked.{Asked, glob_files, has_names, input_name, scope_for, spares_output, text_of_query}
 use Rattle.pg_command.specs.Causes.{fault_of_run}
-use Rattle.pg_command.specs.Reading.{HasRead, FailsToReadAll}
+use Rattle.pg_request.specs.Operands.{IsDirectory}
+use Rattle.pg_request.specs.Reading.{HasRead, FailsToReadAll}
 use Rattle.pg_command.specs.Told.{TellsOfSearch}
-use Rattle.pg_command.specs.declared.fault.Fault.{Fault}
-use Rattle.pg_command.specs.declared.fault.Fault.TheVariants.{OutOfMemory}
-
-abbrev pub is_directory : Option FileKind → Bool
-is_directory None = Bool.false
-is_directory (Some Regular) = Bool.false
-is_directory (Some Directory) = Bool.true
-is_directory (Some Link) = Bool.false
-is_directory (Some Other) = Bool.false
-
--- Where there is one operand, this says whether it is a directory, links followed; `-` is none.
-abbrev pub IsDirectory : Tree → List (List ℕ) → Bool → Type 0
-IsDirectory tree [] directory = Unit {0}
-IsDirectory tree (file ∷ []) directory =
-    directory ≡ (not (is_standard_input file) && is_directory (tree.kind file Bool.true))
-IsDirectory tree (file ∷ other ∷ files) directory = Unit {0}
+use Rattle.pg_request.specs.declared.fault.Fault.{Fault}
+use Rattle.pg_request.specs.declared.fault.Fault.TheVariants.{OutOfMemory}
 
 -- How files are searched and rows look: as asked for, with or without names, in lines of at most 2^30 bytes. A tree
 -- that doesn't tell its answers may call anything a directory but standard input.

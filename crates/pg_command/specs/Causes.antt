@@ -5,9 +5,9 @@ use Rattle.pg_lines.specs.declared.query.QueryFault.TheVariants.{OutOfMemory as 
 use Rattle.pg_run.specs.declared.fault.RunFault.{RunFault}
 use Rattle.pg_run.specs.declared.fault.RunFault.TheVariants.{Query, OutOfMemory as NoMemoryToRun, Sink}
 use Rattle.pg_run.specs.declared.fault.RunFault.TheVariants.{TooManyFiles as TooManyToRun, TooLong}
-use Rattle.pg_command.specs.declared.fault.Fault.{Fault}
-use Rattle.pg_command.specs.declared.fault.Fault.TheVariants.{Pattern, TooLarge, OutOfMemory, WriteFailed}
-use Rattle.pg_command.specs.declared.fault.Fault.TheVariants.{TooManyFiles, LineTooLong}
+use Rattle.pg_request.specs.declared.fault.Fault.{Fault}
+use Rattle.pg_request.specs.declared.fault.Fault.TheVariants.{Pattern, TooLarge, OutOfMemory, WriteFailed}
+use Rattle.pg_request.specs.declared.fault.Fault.TheVariants.{TooManyFiles, LineTooLong}
 
 abbrev pub fault_of_query : QueryFault → Fault
 fault_of_query (Syntax fault) = Pattern fault

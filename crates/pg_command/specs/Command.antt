@@ -11,9 +11,9 @@ use Rattle.pg_words.specs.declared.words.WordsFault.{WordsFault}
 use Rattle.pg_words.specs.declared.words.WordsFault.TheVariants.{Refused, Usage as UsageOfWords}
 use Rattle.pg_words.specs.declared.words.WordsFault.TheVariants.{OutOfMemory as NoMemoryForWords}
 use Rattle.pg_command.specs.Answers.{AnswersSearch}
-use Rattle.pg_command.specs.Asked.{asked_on}
+use Rattle.pg_request.specs.Asked.{asked_on}
 use Rattle.pg_command.specs.Told.{TellsFault, TellsText, line_of}
-use Rattle.pg_command.specs.declared.fault.Fault.TheVariants.{OutOfMemory, Usage, WriteFailed}
+use Rattle.pg_request.specs.declared.fault.Fault.TheVariants.{OutOfMemory, Usage, WriteFailed}
 use Rattle.pg_command.specs.declared.search.Told.{Told}
 
 -- The words weren't taken: nothing was opened or written, and this was told.

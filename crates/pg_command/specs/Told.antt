@@ -7,9 +7,9 @@ use Rattle.pg_base.specs.Sink.{Stream, WritesAll, WritesPart}
 use Rattle.pg_run.specs.Told.{fault_line as file_line}
 use Rattle.pg_words.specs.Usage.{usage_text}
 use Rattle.pg_command.specs.Shown.{shown_lines, shown_text}
-use Rattle.pg_command.specs.declared.fault.Fault.{Fault}
-use Rattle.pg_command.specs.declared.fault.Fault.TheVariants.{NotText, Usage, Unreadable, Pattern, TooLarge}
-use Rattle.pg_command.specs.declared.fault.Fault.TheVariants.{OutOfMemory, WriteFailed, TooManyFiles, LineTooLong}
+use Rattle.pg_request.specs.declared.fault.Fault.{Fault}
+use Rattle.pg_request.specs.declared.fault.Fault.TheVariants.{NotText, Usage, Unreadable, Pattern, TooLarge}
+use Rattle.pg_request.specs.declared.fault.Fault.TheVariants.{OutOfMemory, WriteFailed, TooManyFiles, LineTooLong}
 
 abbrev pub plain_line : List ℕ → List ℕ
 plain_line text = codes "pargrep: " ++ text ++ codes "\n"

@@ -1,4 +1,4 @@
-//! The faults of the program.
+//! What is told of faults.
 ghost use Rattle.std.specs.Prelude.{◌≡◌, ◌++◌, ◌≤◌, codes};
 ghost use Rattle.std.specs.List.{flat_map};
 ghost use Rattle.pg_syntax.specs.Slices.{bytes_of};
@@ -7,100 +7,56 @@ ghost use Rattle.pg_command.specs.Causes.{fault_of_query, fault_of_run};
 ghost use Rattle.pg_command.specs.Shown.{shown_lines, shown_text};
 ghost use Rattle.pg_command.specs.Told.{IsOfNoFile, TellsFault, TellsOfSearch, TellsText, line_of, lines_of_pattern};
 ghost use Rattle.pg_command.specs.Told.{pattern_line, plain_line};
-ghost use Rattle.pg_command.specs.declared.fault.Fault.TheVariants.{OutOfMemory};
 
 use crate::shown::{advice, blanks, byte_at, shown_text};
 use itoa::Buffer;
 use pg_base::{Cause, Sink};
-use pg_lines::{ListFault, QueryFault};
+use pg_lines::QueryFault;
+use pg_request::Fault;
 use pg_run::{RunFault, tell};
-use pg_syntax::SyntaxFault;
-use pg_words::UsageFault;
-use std::alloc::{AllocError, AllocFailed, Global};
+use pg_syntax::{ListFault, SyntaxFault};
+use std::alloc::Global;
 
 /// The status of a run that met a fault.
 pub const FAULT_STATUS: u8 = 2;
 
-/// Why the program doesn't search all that it was asked to.
-#[derive(Clone, Copy, Debug, Drop)]
-pub enum Fault<'a> {
-    /// An argument isn't UTF-8.
-    NotText,
-    /// The words of the command line ask for nothing.
-    Usage(UsageFault),
-    /// The file of patterns of this name couldn't be opened or read to its end, and why.
-    Unreadable(&'a str, Cause),
-    /// A pattern is no expression.
-    Pattern(ListFault),
-    /// The patterns ask for more than 65,536 states together.
-    TooLarge,
-    /// A request for memory was refused.
-    OutOfMemory,
-    /// Standard output failed.
-    WriteFailed,
-    /// More than 2^32 - 1 files are to be searched.
-    TooManyFiles,
-    /// A line of a file has more than 2^30 bytes, or the file more than 2^62.
-    LineTooLong,
-}
-
-impl<'a> From<AllocError> for Fault<'a> {
-    ghost from_gives = { λ _ fault. fault ≡ OutOfMemory };
-
-    fn from(_error: AllocError) -> Fault<'a> {
-        Fault::OutOfMemory
+/// The fault of a query as one of the program.
+fn fault_of_query<'a>(fault: QueryFault) -> Fault<'a>
+    ensures { result ≡ fault_of_query fault }
+{
+    match fault {
+        QueryFault::Syntax(fault) => Fault::Pattern(fault),
+        QueryFault::TooLarge => Fault::TooLarge,
+        QueryFault::OutOfMemory => Fault::OutOfMemory,
     }
 }
 
-impl<'a, T: Drop> From<AllocFailed<T>> for Fault<'a> {
-    ghost from_gives = { λ _ fault. fault ≡ OutOfMemory };
-
-    fn from(_error: AllocFailed<T>) -> Fault<'a> {
-        Fault::OutOfMemory
+/// The fault of a run as one of the program.
+pub(crate) fn fault_of_run<'a>(fault: RunFault) -> Fault<'a>
+    ensures { result ≡ fault_of_run fault }
+{
+    match fault {
+        RunFault::Query(fault) => fault_of_query(fault),
+        RunFault::OutOfMemory => Fault::OutOfMemory,
+        RunFault::Sink => Fault::WriteFailed,
+        RunFault::TooManyFiles => Fault::TooManyFiles,
+        RunFault::TooLong => Fault::LineTooLong,
     }
 }
 
-impl<'a> From<QueryFault> for Fault<'a> {
-    ghost from_gives = { λ query fault. fault ≡ fault_of_query query };
-
-    fn from(fault: QueryFault) -> Fault<'a> {
-        match fault {
-            QueryFault::Syntax(fault) => Fault::Pattern(fault),
-            QueryFault::TooLarge => Fault::TooLarge,
-            QueryFault::OutOfMemory => Fault::OutOfMemory,
-        }
-    }
-}
-
-impl<'a> From<RunFault> for Fault<'a> {
-    ghost from_gives = { λ run fault. fault ≡ fault_of_run run };
-
-    fn from(fault: RunFault) -> Fault<'a> {
-        match fault {
-            RunFault::Query(fault) => Fault::from(fault),
-            RunFault::OutOfMemory => Fault::OutOfMemory,
-            RunFault::Sink => Fault::WriteFailed,
-            RunFault::TooManyFiles => Fault::TooManyFiles,
-            RunFault::TooLong => Fault::LineTooLong,
-        }
-    }
-}
-
-impl<'a> Fault<'a> {
-    /// What its line says is wrong, where that is neither about a file nor about a pattern.
-    fn text(self) -> &'static str
-        ensures { IsOfNoFile self.entry → line_of self.entry ≡ plain_line result.now }
-    {
-        match self {
-            Fault::NotText => "an argument is not UTF-8",
-            Fault::Usage(fault) => fault.text(),
-            Fault::TooLarge => "pattern too large",
-            Fault::OutOfMemory => "out of memory",
-            Fault::WriteFailed => "write failed",
-            Fault::TooManyFiles => "too many files",
-            Fault::LineTooLong => "line too long",
-            Fault::Unreadable(..) | Fault::Pattern(_) => "",
-        }
+/// What a fault's line says is wrong, where that is neither about a file nor about a pattern.
+fn reason_of(fault: Fault<'_>) -> &'static str
+    ensures { IsOfNoFile fault.entry → line_of fault.entry ≡ plain_line result.now }
+{
+    match fault {
+        Fault::NotText => "an argument is not UTF-8",
+        Fault::Usage(fault) => fault.text(),
+        Fault::TooLarge => "pattern too large",
+        Fault::OutOfMemory => "out of memory",
+        Fault::WriteFailed => "write failed",
+        Fault::TooManyFiles => "too many files",
+        Fault::LineTooLong => "line too long",
+        Fault::Unreadable(..) | Fault::Pattern(_) => "",
     }
 }
 
@@ -113,7 +69,7 @@ pub fn report<W: Sink>(alloc: Global, fault: Fault<'_>, err: &mut W) -> u8
     match fault {
         Fault::Pattern(fault) => tell_pattern(alloc, fault, err),
         Fault::Unreadable(name, cause) => tell_file(alloc, name, cause, err),
-        _ => tell_text(alloc, fault.text(), err),
+        _ => tell_text(alloc, reason_of(fault), err),
     }
     FAULT_STATUS
 }

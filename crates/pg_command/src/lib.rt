@@ -5,18 +5,14 @@
 //! error but those of `clap`.
 #![tactic(auto)]
 
-mod colors;
 mod fault;
-mod names;
-mod patterns;
 mod program;
-mod query;
-mod scope;
 mod search;
 mod shown;
 mod words;
 
-pub use fault::{FAULT_STATUS, Fault, report};
+pub use fault::{FAULT_STATUS, report};
+pub use pg_request::Fault;
 pub use program::{command, run};
 pub use search::{Told, answer};
 pub use words::{Call, words_of};

@@ -4,12 +4,12 @@ ghost use Rattle.std.specs.String.{string_bytes};
 ghost use Rattle.pg_command.specs.Command.{Commands, IsShown, RunsCommand, TellsOfWords};
 ghost use Rattle.pg_command.specs.Told.{TellsFault};
 
-use crate::colors::request_on;
-use crate::fault::{FAULT_STATUS, Fault, report, tell_parts};
+use crate::fault::{FAULT_STATUS, report, tell_parts};
 use crate::search::{Told, answer};
 use crate::words::Call;
 use pg_base::{Out, Sink, write_all};
 use pg_files::{Listed, Store};
+use pg_request::{Fault, request_on};
 use pg_walk::Prefetch;
 use pg_words::{HELP, Task, VERSION, Words, WordsFault, read_words};
 use std::alloc::Global;

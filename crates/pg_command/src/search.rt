@@ -3,17 +3,16 @@ ghost use Rattle.std.specs.Prelude.{◌≡◌, ◌≤◌, ◌^◌, [], false, ma
 ghost use Rattle.std.specs.String.{string_bytes};
 ghost use Rattle.pg_syntax.specs.Slices.{bytes_of};
 ghost use Rattle.pg_walk.specs.Scopes.{scope_of};
-ghost use Rattle.pg_command.specs.Asked.{asked_of, has_names, input_name, scope_for, spares_output};
+ghost use Rattle.pg_request.specs.Asked.{asked_of, has_names, input_name, scope_for, spares_output};
 ghost use Rattle.pg_command.specs.Answers.{AnswersSearch, Fails, IsSetup, Succeeds};
-ghost use Rattle.pg_command.specs.Reading.{contents_of};
+ghost use Rattle.pg_request.specs.Reading.{contents_of};
 
-use crate::fault::{Fault, tell_of_search};
-use crate::names::{is_directory, operands_of};
-use crate::patterns::{read_globs, read_patterns};
-use crate::query::text_of;
-use crate::scope::read_scope;
+use crate::fault::{fault_of_run, tell_of_search};
 use pg_base::Sink;
 use pg_files::{Listed, STANDARD_INPUT, Store};
+use pg_request::{
+    Fault, is_directory, operands_of, read_globs, read_patterns, read_scope, text_of,
+};
 use pg_rows::{Format, Mode};
 use pg_run::{FreeGate, Setup, has_room_for, run};
 use pg_walk::{Prefetch, start_helper};
@@ -111,7 +110,10 @@ fn search<
     let globs = read_globs(alloc, request.filters.as_slice(), &mut files.store)?;
     let text = text_of(alloc, request, lists)?;
     let setup = list_files(rt, alloc, request, globs.as_slice(), tree, files)?;
-    Ok(run(rt, alloc, text, setup, files, out, err, &FreeGate)?)
+    match run(rt, alloc, text, setup, files, out, err, &FreeGate) {
+        Ok(status) => Ok(status),
+        Err(fault) => Err(fault_of_run(fault)),
+    }
 }
 
 /// Has a walk over the operands listed, and says how that is searched, where the files of globs have these contents. No

@@ -5,8 +5,7 @@ ghost use Rattle.pg_syntax.specs.Slices.{bytes_of};
 ghost use Rattle.pg_command.specs.Shown.{advice, escape_advice, has_newline, interval_advice, is_printable, is_shown};
 ghost use Rattle.pg_command.specs.Shown.{pattern_text, shown_text};
 
-use pg_lines::ListFault;
-use pg_syntax::FaultKind;
+use pg_syntax::{FaultKind, ListFault};
 
 /// The longest pattern that is shown, in bytes.
 const MAX_SHOWN: usize = 200;

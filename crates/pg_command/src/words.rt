@@ -1,8 +1,8 @@
 //! The words of the command line, as the system gives them.
 ghost use Rattle.std.specs.Prelude.{◌≡◌, ◌⊎◌, IfErr};
-ghost use Rattle.pg_command.specs.declared.fault.Fault.TheVariants.{NotText, OutOfMemory};
+ghost use Rattle.pg_request.specs.declared.fault.Fault.TheVariants.{NotText, OutOfMemory};
 
-use crate::fault::Fault;
+use pg_request::Fault;
 use std::env;
 use std::io::ErrorKind;
 use std::rt::Env;

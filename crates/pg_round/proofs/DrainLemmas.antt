@@ -1,8 +1,9 @@
 -- What is known behind a drain.
 use Rattle.std.proofs.Common.{◌≡◌, ℕ, ◌<◌, Bool, true, false, ◌||◌, List, [], ◌++◌, refl, sym, ◌∙◌, subst, Result, Ok}
-use Rattle.std.proofs.Common.{Err, OnOk, OnErr}
+use Rattle.std.proofs.Common.{Err}
 use Rattle.std.specs.Prelude.{IsErrOf}
 use Rattle.pg_selection.specs.Search.{terminator}
+use Rattle.pg_base.specs.Sink.{Stream}
 use Rattle.pg_rows.specs.Output.{output, HasRoom}
 use Rattle.pg_seq.specs.Plan.{IsShaped, entries_of}
 use Rattle.pg_seq.specs.History.{Past, plan, handed, handed_after, front_after, taken_of}
@@ -10,7 +11,8 @@ use Rattle.pg_seq.specs.Standing.{Drained, drained}
 use Rattle.pg_seq.specs.declared.answers.SinkFault.{SinkFault}
 use Rattle.pg_seq.specs.declared.answers.SinkFault.TheVariants.{WriteFailed, Failed}
 use Rattle.pg_seq.proofs.BeginLemmas.{begins_trans, front_begins}
-use Rattle.pg_round.specs.Receipts.{IsSafe, HasFailed, HasBroken, HasWritten}
+use Rattle.pg_round.specs.Receipts.{IsSafe, HasFailed, HasWritten, Takes}
+use Rattle.pg_round.specs.declared.fault.RoundFault.TheVariants.{Sink}
 
 -- what may be handed out is a beginning of what the plan gives
 pub handed_safe : (past : Past) → HasRoom past.format → IsShaped (terminator past.query) (plan past)
@@ -28,38 +30,53 @@ abbrev pub Told : (Past → Type 0) → Past → Result (Unit {0}) SinkFault →
 Told stands past result before after = (text : List ℕ) × (after ≡ before ++ text) × Drained result past text
     × stands (drained past text result)
 
-pub drain_ok : (stands : Past → Type 0) (past : Past) (result : Result (Unit {0}) SinkFault) (before after : List ℕ)
-    → IsSafe past (handed past) → Told stands past result before after
-    → OnOk result (HasWritten stands past [] before after)
-drain_ok stands past (Ok u) before after safe t = (
+-- of all that may be handed out
+abbrev pub ToldSafely : (stands last : Past → Type 0) → Result (Unit {0}) SinkFault → List ℕ → List ℕ → Type 0
+ToldSafely stands last result before after =
+    (past : Past) → stands past → IsSafe past (handed past) × Told last past result before after
+
+drain_ok : (last : Past → Type 0) (past : Past) (before after : List ℕ) → IsSafe past (handed past)
+    → Told last past (Ok tt) before after → HasWritten last [] past before after
+drain_ok last past before after safe t = (
   t.0,
   (t.1, subst (λ (l : List ℕ). IsSafe past l) (sym t.2.1) safe),
-  subst (λ (f : Bool). stands (record past { written = past.written ++ t.0; failed = f })) (or_false past.failed) t.3,
+  subst (λ (f : Bool). last (record past { written = past.written ++ t.0; failed = f })) (or_false past.failed) t.3,
   t.2.1,
 )
-drain_ok stands past (Err f) before after safe t = tt
 
-failed_err : (stands : Past → Type 0) (past : Past) (f : SinkFault) (before after : List ℕ) → past.failed ≡ false
-    → IsSafe past (handed past) → Told stands past (Err f) before after → HasFailed past before after
-failed_err stands past WriteFailed before after n safe t = (
-  t.0,
+drain_failed : (last : Past → Type 0) (past : Past) (f : SinkFault) (before after : List ℕ) (m m' : ℕ)
+    → past.failed ≡ false → IsSafe past (handed past) → (IsErrOf {T = Unit {0}} (Err f) WriteFailed → m < m')
+    → Told last past (Err f) before after → HasFailed past before after × (m < m')
+drain_failed last past WriteFailed before after m m' n safe cause t = (
   (
-    t.1,
-    begins_trans (past.written ++ t.0) (handed past)
-        (output past.query past.format (entries_of (plan past))) t.2.1 safe,
+    t.0,
+    (
+      t.1,
+      begins_trans (past.written ++ t.0) (handed past)
+          (output past.query past.format (entries_of (plan past))) t.2.1 safe,
+    ),
   ),
+  cause refl,
 )
-failed_err stands past Failed before after n safe t = let h : true ≡ false = sym t.2.0 ∙ n in absurd (cc)
+drain_failed last past Failed before after m m' n safe cause t =
+    let h : true ≡ false = sym t.2.0 ∙ n in absurd (cc)
 
-failed_rose : (stands : Past → Type 0) (past : Past) (f : SinkFault) (before after : List ℕ) (m m' : ℕ)
-    → past.failed ≡ false → (IsErrOf {T = Unit {0}} (Err f) WriteFailed → m < m')
-    → Told stands past (Err f) before after → m < m'
-failed_rose stands past WriteFailed before after m m' n cause t = cause refl
-failed_rose stands past Failed before after m m' n cause t = let h : true ≡ false = sym t.2.0 ∙ n in absurd (cc)
+-- a drain that succeeds, and one that fails
+pub drain_writes : {T : Type 0} (x : T) (stands last : Past → Type 0) (before after : Stream)
+    → after.failures ≡ before.failures → ToldSafely stands last (Ok tt) before.taken after.taken
+    → Takes (Ok x) stands (HasWritten last []) before after
+drain_writes x stands last before after calm told = record {
+  calm = calm;
+  outcome = λ past st n s. let t = told past st in drain_ok last past before.taken after.taken t.0 t.1;
+}
 
-pub drain_err : (stands : Past → Type 0) (past : Past) (result : Result (Unit {0}) SinkFault) (before after : List ℕ)
-    (m m' : ℕ) → past.failed ≡ false → IsSafe past (handed past) → (IsErrOf result WriteFailed → m < m')
-    → Told stands past result before after → OnErr result (HasBroken past before after m m')
-drain_err stands past (Ok u) before after m m' n safe cause t = tt
-drain_err stands past (Err f) before after m m' n safe cause t =
-    (failed_err stands past f before after n safe t, failed_rose stands past f before after m m' n cause t)
+pub drain_breaks : {T : Type 0} (f : SinkFault) (stands last : Past → Type 0)
+    (took : Past → List ℕ → List ℕ → Type 0) (before after : Stream)
+    → (IsErrOf {T = Unit {0}} (Err f) WriteFailed → before.failures < after.failures)
+    → ToldSafely stands last (Err f) before.taken after.taken → Takes {T = T} (Err Sink) stands took before after
+drain_breaks f stands last took before after cause told = record {
+  calm = tt;
+  outcome = λ past st n s.
+      let t = told past st in
+      drain_failed last past f before.taken after.taken before.failures after.failures n t.0 cause t.1;
+}

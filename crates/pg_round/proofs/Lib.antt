@@ -1,5 +1,3 @@
-pub mod ListLemmas
 pub mod DrainLemmas
-pub mod GrowLemmas
+pub mod ReadingLemmas
 pub mod ReceiptLemmas
-pub mod CoverLemmas

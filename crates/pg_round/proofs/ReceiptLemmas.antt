@@ -1,20 +1,17 @@
 -- Results that were received one after another.
-use Rattle.std.proofs.Common.{◌≡◌, ℕ, ◌<◌, false, List, [], ◌∷◌, ◌++◌, refl, sym, ap, ◌∙◌, subst, append_assoc}
-use Rattle.std.proofs.Common.{append-nil, Result, Ok, Err, OnOk, OnErr, IsErrOf}
-use Rattle.std.specs.declared.sync.Arc.{Arc}
-use Rattle.pg_blocks.specs.Blocks.{BlockData}
-use Rattle.pg_selection.specs.Search.{SearchText}
+use Rattle.std.proofs.Common.{◌≡◌, ℕ, ◌<◌, List, [], ◌∷◌, ◌++◌, refl, sym, ap, ◌∙◌, subst, append_assoc}
+use Rattle.std.proofs.Common.{append-nil, Result, Ok, Err}
 use Rattle.pg_selection.specs.Searched.{Searched}
 use Rattle.pg_rows.specs.Output.{output}
-use Rattle.pg_base.specs.Sink.{IsBeginning}
+use Rattle.pg_base.specs.Sink.{Stream, IsBeginning}
 use Rattle.pg_seq.specs.Plan.{Step, entries_of}
-use Rattle.pg_seq.specs.History.{Past, Event, Arrived, plan_of, handed}
-use Rattle.pg_seq.specs.declared.answers.SinkFault.{SinkFault}
+use Rattle.pg_seq.specs.History.{Past, Event, Arrived, plan_of, handed, arrived}
 use Rattle.pg_board.specs.Merge.{IsMerge}
-use Rattle.pg_round.specs.Receipts.{arrivals, received, IsSafe, HasReceived, HasFailed, HasBroken, HasWritten}
-use Rattle.pg_round.specs.Receipts.{HasDelivered, HasRound, TookIn}
-use Rattle.pg_round.specs.Results.{HasAll}
-use Rattle.pg_round.specs.declared.searching.RoundFault.TheVariants.{OutOfMemory, Sink as SinkFails}
+use Rattle.pg_round.specs.Receipts.{arrivals, received, IsSafe, HasReceived, HasFailed, HasWritten}
+use Rattle.pg_round.specs.Receipts.{HasDelivered, HasRound, Takes}
+use Rattle.pg_workers.specs.Results.{HasAll}
+use Rattle.pg_round.specs.declared.fault.RoundFault.{RoundFault}
+use Rattle.pg_round.specs.declared.fault.RoundFault.TheVariants.{OutOfMemory, Sink}
 
 plan_kept : (rs : List Searched) (es : List Event) → plan_of (arrivals rs es) ≡ plan_of es
 plan_kept [] es = refl
@@ -31,7 +28,7 @@ SafeAt past steps written = IsBeginning written (output past.query past.format (
 safe_back : (past : Past) (rs : List Searched) (text w : List ℕ) → IsSafe (received past rs text) w → IsSafe past w
 safe_back past rs text w h = subst (λ (p : List Step). SafeAt past p w) (plan_kept rs past.events) h
 
-pub safe_on : (past : Past) (rs : List Searched) (text w : List ℕ) → IsSafe past w → IsSafe (received past rs text) w
+safe_on : (past : Past) (rs : List Searched) (text w : List ℕ) → IsSafe past w → IsSafe (received past rs text) w
 safe_on past rs text w h = subst (λ (p : List Step). SafeAt past p w) (sym (plan_kept rs past.events)) h
 
 abbrev at_events : Past → List Event → List ℕ → Past
@@ -53,176 +50,150 @@ join_text : (before between after t u : List ℕ) → between ≡ before ++ t �
     → after ≡ before ++ (t ++ u)
 join_text before between after t u e f = f ∙ ap (λ (l : List ℕ). l ++ u) e ∙ append_assoc before t u
 
-pub received_more : (mid last : Past → Type 0) (past : Past) (rs ts : List Searched) (before between after : List ℕ)
-    → HasReceived mid past rs before between
-    → ((p : Past) → mid p → p.failed ≡ false → IsSafe p p.written → HasReceived last p ts between after)
-    → past.failed ≡ false → HasReceived last past (rs ++ ts) before after
-received_more mid last past rs ts before between after h f n =
-    let p = received past rs h.0 in
-    let k = f p h.2 n (safe_on past rs h.0 (past.written ++ h.0) h.1.1) in (
-      h.0 ++ k.0,
-      (join_text before between after h.0 k.0 h.1.0 k.1.0, join_safe past rs h.0 k.0 k.1.1),
-      join_parts last past rs ts h.0 k.0 k.2,
-    )
+-- what comes of results that were received, and then of what follows from the past after them
+module _ (mid : Past → Type 0) (past : Past) (rs : List Searched) (before between after : List ℕ)
+    (first : HasReceived mid rs past before between) where
+  abbrev next : Past
+  next = received past rs first.0
 
-pub received_none : (stands : Past → Type 0) (past : Past) (before : List ℕ) → stands past → IsSafe past past.written
-    → HasReceived stands past [] before before
-received_none stands past before h s = (
-  [],
-  (sym (append-nil before), subst (λ (w : List ℕ). IsSafe past w) (sym (append-nil past.written)) s),
-  subst (λ (w : List ℕ). stands (at_events past past.events w)) (sym (append-nil past.written)) h,
-)
+  fails_then : HasFailed next between after → HasFailed past before after
+  fails_then h = (
+    first.0 ++ h.0,
+    (join_text before between after first.0 h.0 first.1.0 h.1.0, join_safe past rs first.0 h.0 h.1.1),
+  )
 
-pub failed_none : (past : Past) (before : List ℕ) → IsSafe past past.written → HasFailed past before before
-failed_none past before s = (
-  [],
-  (
-    sym (append-nil before),
-    subst (λ (w : List ℕ). IsSafe past w) (sym (append-nil past.written)) s,
-  ),
-)
+  receives_then : (last : Past → Type 0) (ts : List Searched) → HasReceived last ts next between after
+      → HasReceived last (rs ++ ts) past before after
+  receives_then last ts h = (
+    first.0 ++ h.0,
+    (join_text before between after first.0 h.0 first.1.0 h.1.0, join_safe past rs first.0 h.0 h.1.1),
+    join_parts last past rs ts first.0 h.0 h.2,
+  )
 
--- what was received is safe, also where nothing more comes
-pub failed_after : (stands : Past → Type 0) (past : Past) (rs : List Searched) (before after : List ℕ)
-    → HasReceived stands past rs before after → HasFailed past before after
-failed_after stands past rs before after h = (h.0, h.1)
+  writes_then : (last : Past → Type 0) (ts : List Searched) → HasWritten last ts next between after
+      → HasWritten last (rs ++ ts) past before after
+  writes_then last ts h = (
+    first.0 ++ h.0,
+    (join_text before between after first.0 h.0 first.1.0 h.1.0, join_safe past rs first.0 h.0 h.1.1),
+    join_parts last past rs ts first.0 h.0 h.2,
+    sym (append_assoc past.written first.0 h.0) ∙ h.3
+        ∙ ap (λ (es : List Event). handed (at_events past es [])) (arrivals_more rs ts past.events),
+  )
 
-pub failed_more : (mid : Past → Type 0) (past : Past) (rs : List Searched) (before between after : List ℕ)
-    → HasReceived mid past rs before between
-    → ((p : Past) → mid p → p.failed ≡ false → IsSafe p p.written → HasFailed p between after) → past.failed ≡ false
-    → HasFailed past before after
-failed_more mid past rs before between after h f n =
-    let p = received past rs h.0 in
-    let k = f p h.2 n (safe_on past rs h.0 (past.written ++ h.0) h.1.1) in
-    (h.0 ++ k.0, (join_text before between after h.0 k.0 h.1.0 k.1.0, join_safe past rs h.0 k.0 k.1.1))
+-- What results come to that are taken one part after another.
+module _ (stands : Past → Type 0) where
+  pub takes_none : {T : Type 0} (x : T) (before : Stream) → Takes (Ok x) stands (HasReceived stands []) before before
+  takes_none x before = record {
+    calm = refl;
+    outcome = λ past st n s. (
+      [],
+      (sym (append-nil before.taken), subst (λ (w : List ℕ). IsSafe past w) (sym (append-nil past.written)) s),
+      subst (λ (w : List ℕ). stands (at_events past past.events w)) (sym (append-nil past.written)) st,
+    );
+  }
 
-pub broken_more : (mid : Past → Type 0) (past : Past) (rs : List Searched) (before between after : List ℕ) (m n m' : ℕ)
-    → HasReceived mid past rs before between → n ≡ m
-    → ((p : Past) → mid p → p.failed ≡ false → IsSafe p p.written → HasBroken p between after n m')
-    → past.failed ≡ false → HasBroken past before after m m'
-broken_more mid past rs before between after m n m' h e f none =
-    let k = f (received past rs h.0) h.2 none (safe_on past rs h.0 (past.written ++ h.0) h.1.1) in (
-      failed_more mid past rs before between after h (λ p st no safe. (f p st no safe).0) none,
-      subst (λ (x : ℕ). x < m') e k.1,
-    )
+  -- nothing was begun
+  pub takes_no_memory : {T : Type 0} (took : Past → List ℕ → List ℕ → Type 0) (before : Stream)
+      → Takes {T = T} (Err OutOfMemory) stands took before before
+  takes_no_memory took before = record {
+    calm = refl;
+    outcome = λ past st n s. let h = (takes_none {T = Unit {0}} tt before).outcome past st n s in ((h.0, h.1), tt);
+  }
 
-pub written_more : (mid last : Past → Type 0) (past : Past) (rs ts : List Searched) (before between after : List ℕ)
-    → HasReceived mid past rs before between
-    → ((p : Past) → mid p → p.failed ≡ false → IsSafe p p.written → HasWritten last p ts between after)
-    → past.failed ≡ false → HasWritten last past (rs ++ ts) before after
-written_more mid last past rs ts before between after h f n =
-    let p = received past rs h.0 in
-    let k = f p h.2 n (safe_on past rs h.0 (past.written ++ h.0) h.1.1) in (
-      h.0 ++ k.0,
-      (join_text before between after h.0 k.0 h.1.0 k.1.0, join_safe past rs h.0 k.0 k.1.1),
-      join_parts last past rs ts h.0 k.0 k.2,
-      sym (append_assoc past.written h.0 k.0) ∙ k.3
-          ∙ ap (λ (es : List Event). handed (at_events past es [])) (arrivals_more rs ts past.events),
-    )
+  pub takes_value : {T U : Type 0} (x : T) (y : U) (took : Past → List ℕ → List ℕ → Type 0) (before after : Stream)
+      → Takes (Ok x) stands took before after → Takes (Ok y) stands took before after
+  takes_value x y took before after h = record { calm = h.calm; outcome = h.outcome }
 
-pub on_err : {T E : Type 0} (P : Type 0) (r : Result T E) → P → OnErr r P
-on_err P (Ok x) p = tt
-on_err P (Err e) p = p
+  -- a result arrives before what it lets be written
+  pub takes_arrival : {T : Type 0} (result : Result T RoundFault) (mid last : Past → Type 0) (r : Searched)
+      (before after : Stream) → ((past : Past) → stands past → mid (arrived past r))
+      → Takes result mid (HasWritten last []) before after
+      → Takes result stands (HasReceived last (r ∷ [])) before after
+  takes_arrival (Ok x) mid last r before after arrives h = record {
+    calm = h.calm;
+    outcome = λ past st n s. let k = h.outcome (arrived past r) (arrives past st) n s in (k.0, k.1, k.2);
+  }
+  takes_arrival (Err fault) mid last r before after arrives h = record {
+    calm = h.calm;
+    outcome = λ past st n s. h.outcome (arrived past r) (arrives past st) n s;
+  }
 
--- an error is this one, whatever value there would be else
-pub same_fault : {T U E : Type 0} (x y : E) → IsErrOf {T = T} (Err x) y → IsErrOf {T = U} (Err x) y
-same_fault x y is = let e : x ≡ y = cc in ap Err e
+  pub takes_fault : {T U : Type 0} (fault : RoundFault) (took took' : Past → List ℕ → List ℕ → Type 0)
+      (before after : Stream) → Takes {T = T} (Err fault) stands took before after
+      → Takes {T = U} (Err fault) stands took' before after
+  takes_fault fault took took' before after h = record { calm = h.calm; outcome = h.outcome }
 
--- a value is no fault, and want of memory is not a sink's
-pub no_fault : {T E R : Type 0} (x : T) (e : E) → IsErrOf (Ok x) e → R
-no_fault x e is = absurd (cc is)
+  module _ {T : Type 0} (x : T) (mid : Past → Type 0) (rs : List Searched) (before between : Stream)
+      (first : Takes (Ok x) stands (HasReceived mid rs) before between) where
+    -- what was received is safe, also where nothing more comes
+    pub takes_refused : {U : Type 0} (took : Past → List ℕ → List ℕ → Type 0)
+        → Takes {T = U} (Err OutOfMemory) stands took before between
+    takes_refused took = record {
+      calm = first.calm;
+      outcome = λ past st n s. let h = first.outcome past st n s in ((h.0, h.1), tt);
+    }
 
-pub no_sink_fault : {T R : Type 0} → IsErrOf {T = T} (Err OutOfMemory) SinkFails → R
-no_sink_fault is = absurd (cc is)
+    pub takes_then : {U : Type 0} (result : Result U RoundFault) (took' took : Past → List ℕ → List ℕ → Type 0)
+        (after : Stream)
+        → ((past : Past) (h : HasReceived mid rs past before.taken between.taken)
+        → took' (received past rs h.0) between.taken after.taken → took past before.taken after.taken)
+        → Takes result mid took' between after → Takes result stands took before after
+    takes_then (Ok y) took' took after join h = record {
+      calm = h.calm ∙ first.calm;
+      outcome = λ past st n s.
+          let f = first.outcome past st n s in
+          join past f (h.outcome (received past rs f.0) f.2 n (safe_on past rs f.0 (past.written ++ f.0) f.1.1));
+    }
+    takes_then (Err OutOfMemory) took' took after join h = record {
+      calm = h.calm ∙ first.calm;
+      outcome = λ past st n s.
+          let f = first.outcome past st n s in
+          let k = h.outcome (received past rs f.0) f.2 n (safe_on past rs f.0 (past.written ++ f.0) f.1.1) in
+          (fails_then mid past rs before.taken between.taken after.taken f k.0, tt);
+    }
+    takes_then (Err Sink) took' took after join h = record {
+      calm = tt;
+      outcome = λ past st n s.
+          let f = first.outcome past st n s in
+          let k = h.outcome (received past rs f.0) f.2 n (safe_on past rs f.0 (past.written ++ f.0) f.1.1) in (
+            fails_then mid past rs before.taken between.taken after.taken f k.0,
+            subst (λ (m : ℕ). m < after.failures) first.calm k.1,
+          );
+    }
 
-pub no_memory_fault : {T R : Type 0} → IsErrOf {T = T} (Err SinkFails) OutOfMemory → R
-no_memory_fault is = absurd (cc is)
+    pub takes_more : {U : Type 0} (result : Result U RoundFault) (last : Past → Type 0) (ts all : List Searched)
+        (after : Stream) → all ≡ rs ++ ts → Takes result mid (HasReceived last ts) between after
+        → Takes result stands (HasReceived last all) before after
+    takes_more result last ts all after e h =
+        takes_then result (HasReceived last ts) (HasReceived last all) after
+        (λ past f k. subst (λ (l : List Searched). HasReceived last l past before.taken after.taken) (sym e)
+        (receives_then mid past rs before.taken between.taken after.taken f last ts k)) h
 
-pub map_ok : {T E : Type 0} (P Q : Type 0) (r : Result T E) → (P → Q) → OnOk r P → OnOk r Q
-map_ok P Q (Ok x) f p = f p
-map_ok P Q (Err e) f p = tt
+    -- the last drain
+    pub takes_delivered : {U : Type 0} (result : Result U RoundFault) (last : Past → Type 0)
+        (lists : List (List Searched)) (taken out : List Searched) (after : Stream) → out ≡ taken ++ rs
+        → IsMerge lists out → Takes result mid (HasWritten last []) between after
+        → Takes result stands (HasDelivered last lists taken) before after
+    takes_delivered result last lists taken out after e merge h =
+        takes_then result (HasWritten last []) (HasDelivered last lists taken) after
+        (λ past f k. (
+          rs,
+          subst (λ (l : List Searched). IsMerge lists l) e merge,
+          subst (λ (l : List Searched). HasWritten last l past before.taken after.taken) (append-nil rs)
+              (writes_then mid past rs before.taken between.taken after.taken f last [] k),
+        )) h
 
--- results that have been handed out of a tray
-abbrev pub Handing : (Past → Type 0) → Past → List Searched → List Searched → List ℕ → List ℕ → Type 0
-Handing stands past first out before after = (rs : List Searched) × (out ≡ first ++ rs)
-    × HasReceived stands past rs before after
-
-pub handing_none : (stands : Past → Type 0) (past : Past) (first : List Searched) (before : List ℕ) → stands past
-    → IsSafe past past.written → Handing stands past first first before before
-handing_none stands past first before h s = ([], sym (append-nil first), received_none stands past before h s)
-
-pub handing_more : (mid last : Past → Type 0) (past : Past) (first out new : List Searched) (r : Searched)
-    (before between after : List ℕ) → Handing mid past first out before between → new ≡ out ++ r ∷ []
-    → ((p : Past) → mid p → p.failed ≡ false → IsSafe p p.written → HasReceived last p (r ∷ []) between after)
-    → past.failed ≡ false → Handing last past first new before after
-handing_more mid last past first out new r before between after h e f n = (
-  h.0 ++ r ∷ [],
-  e ∙ ap (λ (l : List Searched). l ++ r ∷ []) h.1
-      ∙ append_assoc first h.0 (r ∷ []),
-  received_more mid last past h.0 (r ∷ []) before between after h.2 f n,
-)
-
--- the last drain
-pub delivered_all : (mid last : Past → Type 0) (past : Past) (lists : List (List Searched)) (first out : List Searched)
-    (before between after : List ℕ) → Handing mid past first out before between → IsMerge lists out
-    → ((p : Past) → mid p → p.failed ≡ false → IsSafe p p.written → HasWritten last p [] between after)
-    → past.failed ≡ false → HasDelivered last past lists first before after
-delivered_all mid last past lists first out before between after h m f n =
-    let w = written_more mid last past h.0 [] before between after h.2 f n in (
-      h.0,
-      subst (λ (l : List Searched). IsMerge lists l) h.1 m,
-      subst (λ (l : List Searched). HasWritten last past l before after) (append-nil h.0) w,
-    )
-
-pub delivered_done : (mid last : Past → Type 0) (past : Past) (lists : List (List Searched)) (first out : List Searched)
-    (result : Result (Unit {0}) SinkFault) (before between after : List ℕ) → Handing mid past first out before between
-    → IsMerge lists out
-    → ((p : Past) → mid p → p.failed ≡ false → IsSafe p p.written → OnOk result (HasWritten last p [] between after))
-    → past.failed ≡ false → OnOk result (HasDelivered last past lists first before after)
-delivered_done mid last past lists first out (Ok u) before between after h m f n =
-    delivered_all mid last past lists first out before between after h m f n
-delivered_done mid last past lists first out (Err e) before between after h m f n = tt
-
-pub broken_done : (mid : Past → Type 0) (past : Past) (rs : List Searched) (result : Result (Unit {0}) SinkFault)
-    (before between after : List ℕ) (m n m' : ℕ) → HasReceived mid past rs before between → n ≡ m
-    → ((p : Past) → mid p → p.failed ≡ false → IsSafe p p.written → OnErr result (HasBroken p between after n m'))
-    → past.failed ≡ false → OnErr result (HasBroken past before after m m')
-broken_done mid past rs (Ok u) before between after m n m' h e f none = tt
-broken_done mid past rs (Err x) before between after m n m' h e f none =
-    broken_more mid past rs before between after m n m' h e f none
-
-pub took_ok : (result : Result (Unit {0}) SinkFault) (u : Unit {0}) (stands last : Past → Type 0) (rs : List Searched)
-    (before after : List ℕ) (m m' : ℕ) → TookIn result stands last rs before after m m' → result ≡ Ok u
-    → (past : Past) → stands past → past.failed ≡ false → IsSafe past past.written
-    → HasReceived last past rs before after
-unfolding TookIn
-took_ok result u stands last rs before after m m' h e past st n s =
-    subst (λ (r : Result (Unit {0}) SinkFault). OnOk r (HasReceived last past rs before after)) e (h past st n s).0
-
-pub took_err : (result : Result (Unit {0}) SinkFault) (f : SinkFault) (stands last : Past → Type 0) (rs : List Searched)
-    (before after : List ℕ) (m m' : ℕ) → TookIn result stands last rs before after m m' → result ≡ Err f
-    → (past : Past) → stands past → past.failed ≡ false → IsSafe past past.written → HasBroken past before after m m'
-unfolding TookIn
-took_err result f stands last rs before after m m' h e past st n s =
-    subst (λ (r : Result (Unit {0}) SinkFault). OnErr r (HasBroken past before after m m')) e (h past st n s).1
-
--- results that came, and then the rest of them
-pub round_done : {A : Type 0} (mid last : Past → Type 0) (past : Past) (text : SearchText)
-    (blocks : List (Arc BlockData A)) (lists : List (List Searched)) (rs : List Searched)
-    (before between after : List ℕ)
-    → ((all : List Searched) → IsMerge lists all → HasAll text blocks all) → HasReceived mid past rs before between
-    → ((p : Past) → mid p → p.failed ≡ false → IsSafe p p.written → HasDelivered last p lists rs between after)
-    → past.failed ≡ false → HasRound last past text blocks before after
-round_done mid last past text blocks lists rs before between after all h f n =
-    let d = f (received past rs h.0) h.2 n (safe_on past rs h.0 (past.written ++ h.0) h.1.1) in
-    let k = d.2 in (
-      rs ++ d.0,
-      all (rs ++ d.0) d.1,
-      (
-        h.0 ++ k.0,
-        (join_text before between after h.0 k.0 h.1.0 k.1.0, join_safe past rs h.0 k.0 k.1.1),
-        join_parts last past rs d.0 h.0 k.0 k.2,
-        sym (append_assoc past.written h.0 k.0) ∙ k.3
-            ∙ ap (λ (es : List Event). handed (at_events past es [])) (arrivals_more rs d.0 past.events),
-      ),
-    )
+    -- the rest of a round's results
+    pub takes_round : {U B : Type 0} (result : Result U RoundFault) (last : Past → Type 0)
+        (finds : B → Searched → Type 0) (blocks : List B) (lists : List (List Searched)) (taken : List Searched)
+        (after : Stream)
+        → taken ≡ rs → ((all : List Searched) → IsMerge lists all → HasAll finds blocks all)
+        → Takes result mid (HasDelivered last lists taken) between after
+        → Takes result stands (HasRound last finds blocks) before after
+    takes_round result last finds blocks lists taken after e all h =
+        takes_then result (HasDelivered last lists rs) (HasRound last finds blocks) after
+        (λ past f k. (
+          rs ++ k.0,
+          all (rs ++ k.0) k.1,
+          writes_then mid past rs before.taken between.taken after.taken f last k.0 k.2,
+        )) (subst (λ (l : List Searched). Takes result mid (HasDelivered last lists l) between after) e h)

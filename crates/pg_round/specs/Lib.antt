@@ -1,4 +1,2 @@
-pub mod Results
-pub mod Workers
 pub mod Receipts
 pub mod Reading

@@ -1,7 +1,9 @@
 -- How far a reader has come.
 
 module _ {D F : Type 0} where
-  -- whatever led to the reader, and to what it works on, as they were, leads to them as they are now
-  unfoldable pub HasGoneOn : (D → F → D → F → Type 0) → D → F → D → F → Type 0
-  HasGoneOn reaches reader from reader' from' =
-      (r : D) → (f : F) → reaches r f reader from → reaches r f reader' from'
+  -- A step may be made, and whatever led to the reader, and to what it works on, as they were, leads to them as they
+  -- are now.
+  pub record HasGoneOn (can : D → F → Type 0) (reaches : D → F → D → F → Type 0) (reader : D) (from : F) (reader' : D)
+      (from' : F) : Type 0 where
+    pub ready : can reader' from'
+    pub read : (r : D) → (f : F) → reaches r f reader from → reaches r f reader' from'

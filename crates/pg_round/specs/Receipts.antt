@@ -1,16 +1,15 @@
 -- What a collector stands after once results have come, and what was written.
-use Rattle.std.specs.Prelude.{◌≡◌, ℕ, ◌<◌, false, List, [], ◌∷◌, ◌++◌, Result, OnOk, OnErr}
-use Rattle.std.specs.declared.sync.Arc.{Arc}
+use Rattle.std.specs.Prelude.{◌≡◌, ℕ, ◌<◌, false, List, [], ◌∷◌, ◌++◌, Result}
+use Rattle.std.specs.Result.{MatchResult}
 use Rattle.pg_board.specs.Merge.{IsMerge}
-use Rattle.pg_blocks.specs.Blocks.{BlockData}
-use Rattle.pg_selection.specs.Search.{SearchText}
 use Rattle.pg_selection.specs.Searched.{Searched}
 use Rattle.pg_rows.specs.Output.{output}
-use Rattle.pg_base.specs.Sink.{IsBeginning}
+use Rattle.pg_base.specs.Sink.{Stream, IsBeginning}
 use Rattle.pg_seq.specs.Plan.{entries_of}
 use Rattle.pg_seq.specs.History.{Past, Event, Arrived, plan, handed}
-use Rattle.pg_seq.specs.declared.answers.SinkFault.{SinkFault}
-use Rattle.pg_round.specs.Results.{HasAll}
+use Rattle.pg_workers.specs.Results.{HasAll}
+use Rattle.pg_round.specs.declared.fault.RoundFault.{RoundFault}
+use Rattle.pg_round.specs.declared.fault.RoundFault.TheVariants.{OutOfMemory, Sink}
 
 -- the events, the newest first, after these arrivals too
 abbrev pub arrivals : List Searched → List Event → List Event
@@ -33,38 +32,44 @@ Wrote past before after text = (after ≡ before ++ text) × IsSafe past (past.w
 abbrev pub HasFailed : Past → List ℕ → List ℕ → Type 0
 HasFailed past before after = (text : List ℕ) × Wrote past before after text
 
--- it was so, and then the writer failed
-abbrev pub HasBroken : Past → List ℕ → List ℕ → ℕ → ℕ → Type 0
-HasBroken past before after failures failures' = HasFailed past before after × (failures < failures')
-
 -- a collector, by what it stands after, received these results, and wrote something safe
-abbrev pub HasReceived : (Past → Type 0) → Past → List Searched → List ℕ → List ℕ → Type 0
-HasReceived stands past rs before after =
+abbrev pub HasReceived : (Past → Type 0) → List Searched → Past → List ℕ → List ℕ → Type 0
+HasReceived stands rs past before after =
     (text : List ℕ) × Wrote past before after text × stands (received past rs text)
 
--- What the taking of these results came to, whatever past the collector stood after: at Ok it received them, and at Err
--- something safe was written and then the writer failed.
-unfoldable pub TookIn :
-    Result (Unit {0}) SinkFault → (Past → Type 0) → (Past → Type 0) → List Searched → List ℕ → List ℕ → ℕ → ℕ → Type 0
-TookIn result stands stands' rs before after failures failures' =
-    (past : Past) → stands past → past.failed ≡ false → IsSafe past past.written →
-    OnOk result (HasReceived stands' past rs before after)
-    × OnErr result (HasBroken past before after failures failures')
-
 -- a collector received these results, and all was written that may be handed out after them
-abbrev pub HasWritten : (Past → Type 0) → Past → List Searched → List ℕ → List ℕ → Type 0
-HasWritten stands past rs before after =
+abbrev pub HasWritten : (Past → Type 0) → List Searched → Past → List ℕ → List ℕ → Type 0
+HasWritten stands rs past before after =
     (text : List ℕ) × Wrote past before after text × stands (received past rs text)
     × (past.written ++ text ≡ handed (received past rs text))
 
 -- a collector received the rest of what passes put, behind what was taken, and all was written that may be
 abbrev pub HasDelivered :
-    (Past → Type 0) → Past → List (List Searched) → List Searched → List ℕ → List ℕ → Type 0
-HasDelivered stands past lists taken before after =
-    (rs : List Searched) × IsMerge lists (taken ++ rs) × HasWritten stands past rs before after
+    (Past → Type 0) → List (List Searched) → List Searched → Past → List ℕ → List ℕ → Type 0
+HasDelivered stands lists taken past before after =
+    (rs : List Searched) × IsMerge lists (taken ++ rs) × HasWritten stands rs past before after
 
 -- a collector received the result of each of these blocks, and all was written that may be handed out after them
 abbrev pub HasRound :
-    {A : Type 0} → (Past → Type 0) → Past → SearchText → List (Arc BlockData A) → List ℕ → List ℕ → Type 0
-HasRound stands past text blocks before after =
-    (rs : List Searched) × HasAll text blocks rs × HasWritten stands past rs before after
+    {B : Type 0} → (Past → Type 0) → (B → Searched → Type 0) → List B → Past → List ℕ → List ℕ → Type 0
+HasRound stands finds blocks past before after =
+    (rs : List Searched) × HasAll finds blocks rs × HasWritten stands rs past before after
+
+-- no write failed, unless that is the fault
+abbrev pub NoOtherFailed : RoundFault → (before after : Stream) → Type 0
+NoOtherFailed OutOfMemory before after = after.failures ≡ before.failures
+NoOtherFailed Sink before after = Unit {0}
+
+-- a write failed, where that is the fault
+abbrev pub FailedBy : RoundFault → (before after : Stream) → Type 0
+FailedBy OutOfMemory before after = Unit {0}
+FailedBy Sink before after = before.failures < after.failures
+
+-- How the taking of results ended, whatever past the collector stood after, if all is safe that was written by then: at
+-- Ok this came of it, and at Err something safe was written. No write failed, unless that is the fault.
+pub record Takes {T : Type 0} (result : Result T RoundFault) (stands : Past → Type 0)
+    (took : Past → (before after : List ℕ) → Type 0) (before after : Stream) : Type 0 where
+  pub calm : MatchResult result (λ _. after.failures ≡ before.failures) (λ fault. NoOtherFailed fault before after)
+  pub outcome : (past : Past) → stands past → past.failed ≡ false → IsSafe past past.written →
+      MatchResult result (λ _. took past before.taken after.taken)
+      (λ fault. HasFailed past before.taken after.taken × FailedBy fault before after)

@@ -1,50 +1,22 @@
 //! What the calling thread does with the results of a round.
-ghost use Rattle.std.specs.Prelude.{◌≡◌, ◌∷◌, [], false, OnOk, OnErr};
+ghost use Rattle.std.specs.Prelude.{◌≡◌, ◌∷◌, [], IfErr};
 ghost use Rattle.pg_selection.specs.Searched.{Searched};
-ghost use Rattle.pg_seq.specs.History.{Past};
-ghost use Rattle.pg_round.specs.Receipts.{IsSafe, HasReceived, HasBroken, HasDelivered};
+ghost use Rattle.pg_round.specs.Reading.{HasGoneOn};
+ghost use Rattle.pg_round.specs.Receipts.{HasDelivered, HasReceived, Takes};
+ghost use Rattle.pg_round.specs.declared.fault.RoundFault.TheVariants.{Sink as SinkFailed};
 
 use crate::collector::Collector;
+use crate::fault::RoundFault;
 use crate::reader::Reader;
 use pg_base::Sink;
 use pg_board::{Delivered, TakePass, Tray};
 use pg_selection::BlockResult;
-use pg_seq::SinkFault;
+use pg_workers::Signs;
 use std::alloc::Allocator;
 use std::sync::Wait;
-use std::sync::atomic::{AtomicBool, Ordering};
+use std::sync::atomic::Ordering;
 use std::time::{Clock, Duration};
 use std::{hint, thread};
-
-/// What the threads of a round tell one another.
-pub(crate) struct Signs {
-    /// The workers' thread runs.
-    pub(crate) begun: AtomicBool,
-    /// All workers have ended.
-    pub(crate) ended: AtomicBool,
-    /// A thread could not be made: a worker that hasn't begun doesn't.
-    pub(crate) refused: AtomicBool,
-}
-
-impl Drop for Signs {
-    fn drop(self) {
-        let Signs {
-            begun: _,
-            ended: _,
-            refused: _,
-        } = self;
-    }
-}
-
-impl Signs {
-    pub(crate) fn new() -> Signs {
-        Signs {
-            begun: AtomicBool::new(false),
-            ended: AtomicBool::new(false),
-            refused: AtomicBool::new(false),
-        }
-    }
-}
 
 /// So many looks at an empty tray follow one another at once.
 const SPINS: u32 = 500;
@@ -72,8 +44,7 @@ fn is_over(signs: &Signs, ended: bool, looks: u32) -> bool {
 /// Has the reader make a step, and pauses where it has nothing to do. Counts such looks.
 fn read_on<R: Clock, D: Reader<F>, F>(rt: &R, reader: &mut D, from: &mut F, looks: u32) -> u32
     requires { D.ready reader.old from.old }
-    ensures ready { D.ready reader.new from.new }
-    ensures read { (r : D) → (f : F) → D.reaches r f reader.old from.old → D.reaches r f reader.new from.new }
+    ensures { HasGoneOn D.ready D.reaches reader.old from.old reader.new from.new }
 {
     if reader.step(from) {
         return looks;
@@ -87,18 +58,15 @@ fn receive<A: Allocator, S: Collector<BlockResult<A>>, W: Sink>(
     collector: &mut S,
     out: &mut W,
     found: BlockResult<A>,
-) -> Result<(), SinkFault>
+) -> Result<(), RoundFault>
     requires sees { (found : Searched) → S.searched found ≡ found }
-    ensures ok { (past : Past) → S.stands collector.old past → past.failed ≡ false →
-        OnOk result (HasReceived (S.stands collector.new) past (found ∷ []) (W.stream out.old).taken
-        (W.stream out.new).taken) }
-    ensures err { (past : Past) → S.stands collector.old past → past.failed ≡ false → OnErr result
-        (HasBroken past (W.stream out.old).taken (W.stream out.new).taken (W.stream out.old).failures
-        (W.stream out.new).failures) }
-    ensures calm { OnOk result ((W.stream out.new).failures ≡ (W.stream out.old).failures) }
+    ensures took { Takes result (S.stands collector.old) (HasReceived (S.stands collector.new) (found ∷ []))
+        (W.stream out.old) (W.stream out.new) }
+    ensures fault { IfErr result (λ fault. fault ≡ SinkFailed) }
 {
     let _ = collector.arrive(found);
-    collector.drain(out)
+    collector.drain(out)?;
+    Ok(())
 }
 
 /// Takes what lies on the tray, until all workers have ended and it is empty, or the workers' thread doesn't begin.
@@ -119,21 +87,15 @@ pub(crate) fn take_all<
     reader: &mut D,
     from: &mut F,
     signs: &Signs,
-) -> Result<(), SinkFault>
+) -> Result<(), RoundFault>
     requires take { (take.old.tray ≡ tray.now) × (take.old.taken ≡ []) }
     requires sees { (found : Searched) → S.searched found ≡ found }
     requires reader { D.ready reader.old from.old }
     ensures same { (take.new.tray ≡ tray.now) × (take.new.workers ≡ take.old.workers) }
-    ensures ok { (past : Past) → S.stands collector.old past → past.failed ≡ false → IsSafe past past.written →
-        OnOk result (HasReceived (S.stands collector.new) past take.new.taken (W.stream out.old).taken
-        (W.stream out.new).taken) }
-    ensures err { (past : Past) → S.stands collector.old past → past.failed ≡ false → IsSafe past past.written →
-        OnErr result
-        (HasBroken past (W.stream out.old).taken (W.stream out.new).taken (W.stream out.old).failures
-        (W.stream out.new).failures) }
-    ensures calm { OnOk result ((W.stream out.new).failures ≡ (W.stream out.old).failures) }
-    ensures ready { D.ready reader.new from.new }
-    ensures read { (r : D) → (f : F) → D.reaches r f reader.old from.old → D.reaches r f reader.new from.new }
+    ensures took { Takes result (S.stands collector.old) (HasReceived (S.stands collector.new) take.new.taken)
+        (W.stream out.old) (W.stream out.new) }
+    ensures fault { IfErr result (λ fault. fault ≡ SinkFailed) }
+    ensures read { HasGoneOn D.ready D.reaches reader.old from.old reader.new from.new }
 {
     let mut looks = 0u32;
     for _ in rt.forever() {
@@ -160,21 +122,19 @@ pub(crate) fn deliver<R: Wait, A: Allocator, S: Collector<BlockResult<A>>, W: Si
     mut delivered: Delivered<BlockResult<A>, A>,
     collector: &mut S,
     out: &mut W,
-) -> Result<(), SinkFault>
+) -> Result<(), RoundFault>
     requires sees { (found : Searched) → S.searched found ≡ found }
-    ensures ok { (past : Past) → S.stands collector.old past → past.failed ≡ false → IsSafe past past.written →
-        OnOk result (HasDelivered (S.stands collector.new) past delivered.lists delivered.out
-        (W.stream out.old).taken (W.stream out.new).taken) }
-    ensures err { (past : Past) → S.stands collector.old past → past.failed ≡ false → IsSafe past past.written →
-        OnErr result
-        (HasBroken past (W.stream out.old).taken (W.stream out.new).taken (W.stream out.old).failures
-        (W.stream out.new).failures) }
-    ensures calm { OnOk result ((W.stream out.new).failures ≡ (W.stream out.old).failures) }
+    ensures took { Takes result (S.stands collector.old) (HasDelivered (S.stands collector.new) delivered.lists
+        delivered.out) (W.stream out.old) (W.stream out.new) }
+    ensures fault { IfErr result (λ fault. fault ≡ SinkFailed) }
 {
     for _ in rt.forever() {
         match delivered.next(rt) {
             Some(found) => receive(collector, out, found)?,
-            None => return collector.drain(out),
+            None => {
+                collector.drain(out)?;
+                return Ok(());
+            }
         }
     }
     unreachable!()

@@ -1,62 +1,24 @@
 //! The search of one round.
-ghost use Rattle.std.specs.Prelude.{◌≡◌, ◌+◌, ◌<◌, ◌≤◌, [], true, false, All, Any, vec_len, length};
-ghost use Rattle.std.specs.Prelude.{IfOk, OnOk, OnErr, IsErrOf};
-ghost use Rattle.pg_match.specs.Machines.{Fits};
+ghost use Rattle.std.specs.Prelude.{◌≡◌, ◌+◌, ◌<◌, ◌≤◌, [], All, vec_len, length, IfOk, OnOk};
 ghost use Rattle.pg_selection.specs.Searched.{Searched};
-ghost use Rattle.pg_seq.specs.History.{Past};
-ghost use Rattle.pg_round.specs.Results.{HasShortLines};
-ghost use Rattle.pg_round.specs.Workers.{task_of, IsReady, HasFinished, AreBack};
-ghost use Rattle.pg_round.specs.Receipts.{IsSafe, HasReceived, HasFailed, HasRound};
-ghost use Rattle.pg_round.specs.declared.searching.RoundFault.TheVariants.{OutOfMemory, Sink as SinkFails};
+ghost use Rattle.pg_workers.specs.Workers.{task_of, IsReady, HasFinished, AreBack};
+ghost use Rattle.pg_round.specs.Reading.{HasGoneOn};
+ghost use Rattle.pg_round.specs.Receipts.{HasReceived, HasRound, Takes};
 
-use crate::closing::close_round;
 use crate::collector::Collector;
-use crate::finishing::search_rest;
-use crate::gate::Gate;
-use crate::opening::{Opened, open_round};
+use crate::fault::RoundFault;
 use crate::reader::Reader;
 use crate::receiving::deliver;
-use crate::round::Round;
 use crate::streaming::stream;
-use crate::worker::Worker;
 use pg_base::Sink;
 use pg_blocks::Block;
 use pg_board::TakePass;
-use pg_lines::{Query, Scratch};
 use pg_selection::BlockResult;
-use pg_seq::SinkFault;
-use std::alloc::{AllocError, Allocator};
+use pg_workers::{BlockSearch, Opened, Round, Worker, close_round, open_round, search_rest};
+use std::alloc::Allocator;
 use std::sync::{Arc, Wait};
 use std::thread::Threads;
 use std::time::Clock;
-use thiserror::Error;
-
-/// Why a round broke off.
-#[derive(Clone, Copy, Debug, PartialEq, Eq, Error)]
-pub enum RoundFault {
-    /// A request for memory was refused.
-    #[error("out of memory")]
-    OutOfMemory,
-    /// A write failed, or took no byte of a text that isn't empty.
-    #[error("write failed")]
-    Sink,
-}
-
-impl From<AllocError> for RoundFault {
-    ghost from_gives = { λ _ fault. fault ≡ OutOfMemory };
-
-    fn from(_error: AllocError) -> RoundFault {
-        RoundFault::OutOfMemory
-    }
-}
-
-impl From<SinkFault> for RoundFault {
-    ghost from_gives = { λ _ fault. fault ≡ SinkFails };
-
-    fn from(_fault: SinkFault) -> RoundFault {
-        RoundFault::Sink
-    }
-}
 
 /// How many search a round of so many blocks, the calling thread too, where there are so many scratches and at most so
 /// many threads are wanted.
@@ -78,96 +40,38 @@ fn search_beside<
     W: Sink,
     D: Reader<F>,
     F,
-    G: Gate + Sync,
+    C: Drop + Send,
+    Q: BlockSearch<Arc<Block<A>, A>, C, BlockResult<A>> + Sync,
 >(
     rt: &R,
     alloc: A,
-    round: Round<'_, A>,
-    workers: Vec<Worker<A>, A>,
+    round: Round<'_, Q, A>,
+    workers: Vec<Worker<A, C>, A>,
     take: &mut TakePass<BlockResult<A>, A>,
     collector: &mut S,
     out: &mut W,
     reader: &mut D,
     from: &mut F,
-    gate: &G,
-) -> Result<Vec<Worker<A>, A>, RoundFault>
-    requires ready { IsReady (task_of round) }
-    requires finished { All (HasFinished (task_of round)) workers.items }
+) -> Result<Vec<Worker<A, C>, A>, RoundFault>
+    requires ready { IsReady (task_of Q.seen round) }
+    requires finished { All (HasFinished (task_of Q.seen round)) workers.items }
     requires sees { (found : Searched) → S.searched found ≡ found }
     requires take { (take.old.tray ≡ round.tray.now) × (take.old.taken ≡ []) }
     requires reader { D.ready reader.old from.old }
-    ensures back { IfOk result (λ back. AreBack (task_of round.entry) workers.items back.items) }
+    ensures back { IfOk result (λ back. AreBack (task_of Q.seen round.entry) workers.items back.items) }
     ensures same { (take.new.tray ≡ round.entry.tray.now) × (take.new.workers ≡ take.old.workers) }
-    ensures ok { (past : Past) → S.stands collector.old past → past.failed ≡ false → IsSafe past past.written →
-        OnOk result (HasReceived (S.stands collector.new) past take.new.taken (W.stream out.old).taken
-        (W.stream out.new).taken) }
-    ensures err { (past : Past) → S.stands collector.old past → past.failed ≡ false → IsSafe past past.written →
-        OnErr result (HasFailed past (W.stream out.old).taken (W.stream out.new).taken) }
-    ensures cause { (past : Past) → S.stands collector.old past → past.failed ≡ false → IsSafe past past.written →
-        IsErrOf result SinkFails → (W.stream out.old).failures < (W.stream out.new).failures }
-    ensures calm { OnOk result ((W.stream out.new).failures ≡ (W.stream out.old).failures) }
-    ensures memory { IsErrOf result OutOfMemory → (W.stream out.new).failures ≡ (W.stream out.old).failures }
-    ensures ready { D.ready reader.new from.new }
-    ensures read { (r : D) → (f : F) → D.reaches r f reader.old from.old → D.reaches r f reader.new from.new }
+    ensures took { Takes result (S.stands collector.old) (HasReceived (S.stands collector.new) take.new.taken)
+        (W.stream out.old) (W.stream out.new) }
+    ensures read { HasGoneOn D.ready D.reaches reader.old from.old reader.new from.new }
 {
     if workers.len() < 2 {
         return Ok(workers);
     }
     let (back, taken) = stream(
-        rt, alloc, &round, round.tray, workers, take, collector, out, reader, from, gate,
+        rt, alloc, &round, round.tray, workers, take, collector, out, reader, from,
     );
     taken?;
     Ok(back)
-}
-
-/// Searches all blocks, and takes some of the results. Meanwhile the reader goes on. What was left is searched in this
-/// thread, by the first worker.
-fn search_all<
-    R: Threads + Wait + Clock + Sync,
-    A: Allocator + Copy + Send + Sync,
-    S: Collector<BlockResult<A>>,
-    W: Sink,
-    D: Reader<F>,
-    F,
-    G: Gate + Sync,
->(
-    rt: &R,
-    alloc: A,
-    round: Round<'_, A>,
-    workers: Vec<Worker<A>, A>,
-    take: &mut TakePass<BlockResult<A>, A>,
-    collector: &mut S,
-    out: &mut W,
-    reader: &mut D,
-    from: &mut F,
-    gate: &G,
-) -> Result<Vec<Worker<A>, A>, RoundFault>
-    requires ready { IsReady (task_of round) }
-    requires finished { All (HasFinished (task_of round)) workers.items × (0 < vec_len workers) }
-    requires sees { (found : Searched) → S.searched found ≡ found }
-    requires take { (take.old.tray ≡ round.tray.now) × (take.old.taken ≡ []) }
-    requires reader { D.ready reader.old from.old }
-    ensures finished { IfOk result (λ back. (vec_len back ≡ vec_len workers)
-        × All (HasFinished (task_of round.entry)) back.items) }
-    ensures spent { IfOk result (λ back. Any (λ w. w.seat.spent ≡ true) back.items) }
-    ensures same { (take.new.tray ≡ round.entry.tray.now) × (take.new.workers ≡ take.old.workers) }
-    ensures ok { (past : Past) → S.stands collector.old past → past.failed ≡ false → IsSafe past past.written →
-        OnOk result (HasReceived (S.stands collector.new) past take.new.taken (W.stream out.old).taken
-        (W.stream out.new).taken) }
-    ensures err { (past : Past) → S.stands collector.old past → past.failed ≡ false → IsSafe past past.written →
-        OnErr result (HasFailed past (W.stream out.old).taken (W.stream out.new).taken) }
-    ensures cause { (past : Past) → S.stands collector.old past → past.failed ≡ false → IsSafe past past.written →
-        IsErrOf result SinkFails → (W.stream out.old).failures < (W.stream out.new).failures }
-    ensures calm { OnOk result ((W.stream out.new).failures ≡ (W.stream out.old).failures) }
-    ensures memory { IsErrOf result OutOfMemory → (W.stream out.new).failures ≡ (W.stream out.old).failures }
-    ensures ready { D.ready reader.new from.new }
-    ensures read { (r : D) → (f : F) → D.reaches r f reader.old from.old → D.reaches r f reader.new from.new }
-{
-    let mut workers = search_beside(
-        rt, alloc, round, workers, take, collector, out, reader, from, gate,
-    )?;
-    search_rest(rt, alloc, round, &mut workers, gate)?;
-    Ok(workers)
 }
 
 /// Searches all blocks of a round, and hands out what may be.
@@ -176,14 +80,13 @@ fn search_all<
 /// blocks, and at most `threads`, which are 0 to 64, a worker searches in a thread of its own; a round of one block has
 /// none. Meanwhile the calling thread takes the results as they come, and has them written; then it searches what was
 /// left. A thread that can't be made is no fault: others search its blocks. Nor is a thread that is refused memory: it
-/// ends, and the block that it was searching is searched again once all have ended. The collector's results are those
-/// that [`search_block`](pg_lines::search_block) makes.
+/// ends, and the block that it was searching is searched again once all have ended.
 ///
 /// Whenever no result is there to be taken, the reader makes a step in the calling thread, until all workers are seen
 /// to have ended. In a round without workers it makes none.
 ///
-/// The round has at most 1,024 blocks, whose lines have at most 2^30 bytes each. The scratches fit the query's machine.
-/// At `Ok` they are there again, in any order.
+/// The round has at most 1,024 blocks, which `query` searches and may search. The scratches fit it. At `Ok` they are
+/// there again, in any order.
 ///
 /// # Errors
 ///
@@ -197,39 +100,31 @@ pub fn search_round<
     W: Sink,
     D: Reader<F>,
     F,
-    G: Gate + Sync,
+    C: Drop + Send,
+    Q: BlockSearch<Arc<Block<A>, A>, C, BlockResult<A>> + Sync,
 >(
     rt: &R,
     alloc: A,
-    query: &Query<A>,
+    query: &Q,
     blocks: &[Arc<Block<A>, A>],
     threads: u32,
-    scratches: &mut Vec<Scratch<A>, A>,
+    scratches: &mut Vec<C, A>,
     collector: &mut S,
     out: &mut W,
     reader: &mut D,
     from: &mut F,
-    gate: &G,
 ) -> Result<(), RoundFault>
     requires few { (0 < vec_len scratches.old) × (vec_len scratches.old ≤ 65) × (length blocks.now ≤ 1024)
         × (threads ≤ 64) }
-    requires fits { All (λ s. Fits s query.now.machine) scratches.old.items }
+    requires fits { All (Q.seen query.now).fits scratches.old.items }
     requires sees { (found : Searched) → S.searched found ≡ found }
-    requires short { All (HasShortLines query.now.text) blocks.now }
+    requires may { All (Q.seen query.now).may blocks.now }
     requires reader { D.ready reader.old from.old }
-    ensures ok { (past : Past) → S.stands collector.old past → past.failed ≡ false → IsSafe past past.written →
-        OnOk result (HasRound (S.stands collector.new) past query.now.text blocks.now
-        (W.stream out.old).taken (W.stream out.new).taken) }
-    ensures err { (past : Past) → S.stands collector.old past → past.failed ≡ false → IsSafe past past.written →
-        OnErr result (HasFailed past (W.stream out.old).taken (W.stream out.new).taken) }
-    ensures cause { (past : Past) → S.stands collector.old past → past.failed ≡ false → IsSafe past past.written →
-        IsErrOf result SinkFails → (W.stream out.old).failures < (W.stream out.new).failures }
-    ensures calm { OnOk result ((W.stream out.new).failures ≡ (W.stream out.old).failures) }
-    ensures memory { IsErrOf result OutOfMemory → (W.stream out.new).failures ≡ (W.stream out.old).failures }
-    ensures ready { D.ready reader.new from.new }
-    ensures read { (r : D) → (f : F) → D.reaches r f reader.old from.old → D.reaches r f reader.new from.new }
+    ensures took { Takes result (S.stands collector.old) (HasRound (S.stands collector.new) (Q.seen query.now).finds
+        blocks.now) (W.stream out.old) (W.stream out.new) }
+    ensures read { HasGoneOn D.ready D.reaches reader.old from.old reader.new from.new }
     ensures scratches { OnOk result ((vec_len scratches.new ≡ vec_len scratches.old)
-        × All (λ s. Fits s query.now.machine) scratches.new.items) }
+        × All (Q.seen query.now).fits scratches.new.items) }
 {
     let count = count_workers(blocks.len(), scratches.len(), threads);
     let Opened {
@@ -244,9 +139,10 @@ pub fn search_round<
         board: &board,
         tray: &tray,
     };
-    let workers = search_all(
-        rt, alloc, round, workers, &mut take, collector, out, reader, from, gate,
+    let mut workers = search_beside(
+        rt, alloc, round, workers, &mut take, collector, out, reader, from,
     )?;
+    search_rest(rt, round, &mut workers)?;
     let delivered = close_round(alloc, query, blocks, board, tray, workers, take, scratches)?;
     deliver(rt, delivered, collector, out)?;
     Ok(())

@@ -2,12 +2,13 @@
 ghost use Rattle.std.specs.Prelude.{◌≡◌, ℕ, ◌+◌, ◌^◌, ◌<◌, ◌≤◌, ◌++◌, List, All};
 ghost use Rattle.std.specs.Prelude.{vec_len, IfOk, OnOk, IsErrOf};
 ghost use Rattle.pg_match.specs.Machines.{Fits};
-ghost use Rattle.pg_round.specs.Results.{HasShortLines};
+ghost use Rattle.pg_run.specs.Searches.{HasShortLines};
 
 use pg_base::Sink;
 use pg_blocks::Block;
 use pg_lines::{BlockResult, Kind, PatternList, Query, QueryText, Scratch};
-use pg_round::{Collector, Gate, Reader};
+use pg_round::{Collector, Reader};
+use pg_run::Gate;
 use pg_seq::{Arrival, SinkFault};
 use std::alloc::{AllocError, Allocator};
 use std::sync::Arc;

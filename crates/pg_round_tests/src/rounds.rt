@@ -1,13 +1,14 @@
 //! Rounds of blocks.
 ghost use Rattle.std.specs.Prelude.{◌≡◌, ◌<◌, ◌≤◌, All, vec_len, IfOk};
 ghost use Rattle.pg_match.specs.Machines.{Fits};
-ghost use Rattle.pg_round.specs.Results.{HasShortLines};
+ghost use Rattle.pg_run.specs.Searches.{HasShortLines};
 
 use crate::fixtures::{Counting, Counts, Holding, Meeting, Stepping, blocks, query, scratches};
 use pg_base::MemSink;
 use pg_blocks::Block;
 use pg_lines::{Query, Scratch};
-use pg_round::{FreeGate, Gate, NothingToRead, Reader, RoundFault, search_round};
+use pg_round::{NothingToRead, Reader, RoundFault, search_round};
+use pg_run::{FreeGate, Gate, GatedQuery};
 use refusing::Refusing;
 use std::alloc::{AllocError, Allocator, Global};
 use std::sync::atomic::Ordering;
@@ -74,10 +75,15 @@ fn search_beside<
     let mut round = round_of(alloc, blocks_count, scratches_count)?;
     let mut counts = Counts { found: [0; 8] };
     let mut sink = MemSink::new(alloc, 100)?;
+    let query = GatedQuery {
+        alloc,
+        query: &round.query,
+        gate,
+    };
     search_round(
         rt,
         alloc,
-        &round.query,
+        &query,
         round.blocks.as_slice(),
         64,
         &mut round.scratches,
@@ -85,7 +91,6 @@ fn search_beside<
         &mut sink,
         reader,
         from,
-        gate,
     )?;
     Ok((counts.found, round.scratches.len()))
 }

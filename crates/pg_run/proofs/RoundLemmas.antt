@@ -1,9 +1,8 @@
 -- What a round leaves an engine with.
-use Rattle.std.proofs.Common.{◌≡◌, ◌⊎◌, ℕ, ◌<◌, zero, suc, Bool, true, false, inl, inr, Some, Err, List, [], ◌∷◌, ◌++◌}
+use Rattle.std.proofs.Common.{◌≡◌, ◌⊎◌, ℕ, ◌<◌, zero, suc, Bool, true, false, inl, inr, Some, List, [], ◌∷◌, ◌++◌}
 use Rattle.std.proofs.Common.{length, map, refl, sym, ap, ◌∙◌, subst, arith, append_assoc}
 use Rattle.std.specs.Prelude.{slice_get, slice_index_or, option_map}
 use Rattle.std.specs.List.{All, AllByRecursion, Contains, list_all}
-use Rattle.std.specs.Result.{IsErrOf}
 use Rattle.std.specs.Arc.{arc_value}
 use Rattle.std.specs.declared.sync.Arc.{Arc}
 use Rattle.std.proofs.lemmas.Bool.{and_from, and_parts}
@@ -29,12 +28,13 @@ use Rattle.pg_seq.proofs.StandLemmas.{all_push}
 use Rattle.pg_run.specs.Outcome.{NoneFailed}
 use Rattle.pg_run.specs.Holding.{Aim, HasPlan, AllIsWritten, BreaksOffInSearch, SearchCause, past_of, format_of}
 use Rattle.pg_run.specs.Holding.{output_of, waiting}
-use Rattle.pg_round.specs.Results.{HasResult, HasAll, HasShortLines}
-use Rattle.pg_round.specs.Receipts.{arrivals, IsSafe, HasRound, HasFailed}
+use Rattle.pg_workers.specs.Results.{HasResult, HasAll}
+use Rattle.pg_run.specs.Searches.{HasShortLines, IsFoundIn}
+use Rattle.pg_round.specs.Receipts.{arrivals, IsSafe, HasRound, HasFailed, FailedBy, NoOtherFailed}
 use Rattle.pg_run.specs.declared.engine.Engine.{Engine}
 use Rattle.pg_run.specs.Faults.{fault_of_round}
-use Rattle.pg_round.specs.declared.searching.RoundFault.{RoundFault}
-use Rattle.pg_round.specs.declared.searching.RoundFault.TheVariants.{OutOfMemory as NoMemory, Sink as RoundSink}
+use Rattle.pg_round.specs.declared.fault.RoundFault.{RoundFault}
+use Rattle.pg_round.specs.declared.fault.RoundFault.TheVariants.{OutOfMemory as NoMemory, Sink as RoundSink}
 use Rattle.pg_run.proofs.HoldLemmas.{any_more, own_key, handed_is}
 
 -- A block that was taken stays so.
@@ -97,7 +97,7 @@ all_come past (r ∷ rs) b shaped known came =
 -- The blocks of a round.
 module _ {A : Type 0} where
   came_of : (text : SearchText) (blocks : List (Arc BlockData A)) (n : ℕ) (block : Arc BlockData A)
-      → slice_get blocks n ≡ Some block → (rs : List Searched) → HasResult text blocks n rs
+      → slice_get blocks n ≡ Some block → (rs : List Searched) → HasResult (IsFoundIn text) blocks n rs
       → ReadOutcome text (arc_value block) rs
   came_of text blocks n block at [] h = absurd h
   came_of text blocks n block at (r ∷ rs) h = elim h [
@@ -132,7 +132,8 @@ module _ {A : Type 0} where
   -- after a round all blocks were taken
   pub all_taken_after : (past : Past) (blocks : List (Arc BlockData A)) (taken : List BlockData) (rs : List Searched)
       → IsShaped (terminator past.query) (plan past) → announced (plan past) ≡ taken ++ map arc_value blocks
-      → list_all (is_taken (taken_of past.query past.events)) taken ≡ true → HasAll past.query.text blocks rs
+      → list_all (is_taken (taken_of past.query past.events)) taken ≡ true
+      → HasAll (IsFoundIn past.query.text) blocks rs
       → list_all (is_taken (taken_of past.query (arrivals rs past.events))) (announced (plan past)) ≡ true
   all_taken_after past blocks taken rs shaped split front all =
       let keys = taken_of past.query past.events in
@@ -217,7 +218,7 @@ module _ {A : Type 0} {engine : Engine A} {aim : Aim} {steps : List Step} {out :
   module _ (engine' : Engine A) (out' : Stream) (same : engine'.query.text ≡ aim.query.text)
       (set : engine'.setup ≡ aim.setup) (count : engine'.files ≡ opened steps) (none : waiting engine' ≡ [])
       (text : SearchText) (own : text ≡ aim.query.text)
-      (round : HasRound (IsAfter engine'.sequencer) past text engine.round.items out.taken out'.taken)
+      (round : HasRound (IsAfter engine'.sequencer) (IsFoundIn text) engine.round.items past out.taken out'.taken)
       (calm : out'.failures ≡ out.failures) where
     abbrev rs : List Searched
     rs = round.0
@@ -230,7 +231,7 @@ module _ {A : Type 0} {engine : Engine A} {aim : Aim} {steps : List Step} {out :
 
     holds_after : HasPlan engine' aim steps out'
     holds_after =
-        let T : SearchText → Type 0 = λ t. HasAll t engine.round.items rs in
+        let T : SearchText → Type 0 = λ t. HasAll (IsFoundIn t) engine.round.items rs in
         let all = all_taken_after past engine.round.items h.taken rs
         (shape_of (terminator aim.query) (plan past) h.stands.lawful) (ap announced h.planned ∙ h.blocks) h.all
         (subst T own round.1) in
@@ -261,11 +262,10 @@ module _ {A : Type 0} {engine : Engine A} {aim : Aim} {steps : List Step} {out :
 
   -- or failed
   pub round_failed : (out' : Stream) (fault : RoundFault) → HasFailed past out.taken out'.taken
-      → (IsErrOf {T = Unit {0}} (Err fault) RoundSink → out.failures < out'.failures)
-      → (IsErrOf {T = Unit {0}} (Err fault) NoMemory → out'.failures ≡ out.failures)
+      → FailedBy fault out out' → NoOtherFailed fault out out'
       → BreaksOffInSearch aim steps out' (fault_of_round fault)
-  round_failed out' fault f rose calm = record {
-    cause = cause_of fault rose;
+  round_failed out' fault f failed calm = record {
+    cause = cause_of fault failed;
     calm = calm_of fault calm;
     part = (
       h.written ++ f.0,
@@ -274,12 +274,11 @@ module _ {A : Type 0} {engine : Engine A} {aim : Aim} {steps : List Step} {out :
     );
   }
     where
-      cause_of : (fault : RoundFault) → (IsErrOf {T = Unit {0}} (Err fault) RoundSink → out.failures < out'.failures)
-          → SearchCause (fault_of_round fault) aim out'
-      cause_of NoMemory rose = tt
-      cause_of RoundSink rose = let more : out.failures < out'.failures = rose refl in omega (arith, more, h.calm)
+      cause_of : (fault : RoundFault) → FailedBy fault out out' → SearchCause (fault_of_round fault) aim out'
+      cause_of NoMemory failed = tt
+      cause_of RoundSink failed = omega (arith, failed, h.calm)
 
-      calm_of : (fault : RoundFault) → (IsErrOf {T = Unit {0}} (Err fault) NoMemory → out'.failures ≡ out.failures)
+      calm_of : (fault : RoundFault) → NoOtherFailed fault out out'
           → NoneFailed (fault_of_round fault) aim.out out'
-      calm_of NoMemory calm = calm refl ∙ h.calm
+      calm_of NoMemory calm = calm ∙ h.calm
       calm_of RoundSink calm = tt

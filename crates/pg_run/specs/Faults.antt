@@ -5,8 +5,8 @@ use Rattle.pg_lines.specs.declared.query.QueryFault.{QueryFault}
 use Rattle.pg_lines.specs.declared.query.QueryFault.TheVariants.{Syntax, TooLarge, OutOfMemory as NoMemoryForQuery}
 use Rattle.pg_run.specs.declared.fault.RunFault.{RunFault}
 use Rattle.pg_run.specs.declared.fault.RunFault.TheVariants.{Query, OutOfMemory, Sink, TooLong}
-use Rattle.pg_round.specs.declared.searching.RoundFault.{RoundFault}
-use Rattle.pg_round.specs.declared.searching.RoundFault.TheVariants.{OutOfMemory as NoMemoryForRound, Sink as RoundSink}
+use Rattle.pg_round.specs.declared.fault.RoundFault.{RoundFault}
+use Rattle.pg_round.specs.declared.fault.RoundFault.TheVariants.{OutOfMemory as NoMemoryForRound, Sink as RoundSink}
 
 abbrev pub fault_of_round : RoundFault → RunFault
 fault_of_round NoMemoryForRound = OutOfMemory

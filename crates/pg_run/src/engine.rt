@@ -6,13 +6,15 @@ ghost use Rattle.pg_run.specs.Endless.{is_endless};
 ghost use Rattle.pg_run.specs.Scratches.{AreScratches};
 
 use crate::fault::RunFault;
+use crate::gate::Gate;
+use crate::gated::GatedQuery;
 use crate::pace::{Pace, time};
 use crate::room::has_room_for;
 use crate::setup::Setup;
 use pg_base::{Sink, WriteError};
 use pg_blocks::{Block, Cutter};
-use pg_lines::{Kind, Query, Scratch, search_block};
-use pg_round::{Gate, NothingToRead, Reader, search_round};
+use pg_lines::{Kind, Query, Scratch};
+use pg_round::{BlockSearch, NothingToRead, Reader, search_round};
 use pg_rows::Format;
 use pg_seq::Sequencer;
 use std::alloc::{AllocError, Allocator, Global};
@@ -214,11 +216,12 @@ impl<A: Allocator + Copy> Engine<A> {
         ensures ok { TakesStep self.old self.new (Announces block) result }
     {
         let block = Arc::new(self.alloc, block)?;
-        let searched = Arc::try_clone(&block)?;
-        gate.before(0);
-        let answer = search_block(self.alloc, &self.query, &mut self.scratch, searched);
-        gate.after(0);
-        let found = answer?;
+        let query = GatedQuery {
+            alloc: self.alloc,
+            query: &self.query,
+            gate,
+        };
+        let found = query.search(&mut self.scratch, 0, &block)?;
         let kept = Arc::try_clone(&block)?;
         self.sequencer.announce(block)?;
         self.sequencer.keep(found);
@@ -402,6 +405,7 @@ impl<A: Allocator + Copy> Engine<A> {
 
 impl<A: Allocator + Copy + Send + Sync> Engine<A> {
     ghost use Rattle.pg_seq.specs.Plan.{Step, is_open};
+    ghost use Rattle.pg_round.specs.Reading.{HasGoneOn};
     ghost use Rattle.pg_run.specs.Holding.{Aim, HasPlan, HasRoomInRound, HasSomePlan, BreaksOffInSearch};
     ghost use Rattle.pg_run.specs.Holding.{EmptiesRound, IsFinished, IsWrittenFirst, KeepsPlan};
 
@@ -423,8 +427,7 @@ impl<A: Allocator + Copy + Send + Sync> Engine<A> {
     ) -> Result<(), RunFault>
         requires ready { D.ready reader.old from.old }
         requires holds { HasSomePlan self.old (W.stream out.old) }
-        ensures ready { D.ready reader.new from.new }
-        ensures read { (r : D) → (f : X) → D.reaches r f reader.old from.old → D.reaches r f reader.new from.new }
+        ensures read { HasGoneOn D.ready D.reaches reader.old from.old reader.new from.new }
         ensures empties { EmptiesRound self.old self.new (W.stream out.old) (W.stream out.new) result }
     {
         self.reserve = None;
@@ -438,10 +441,15 @@ impl<A: Allocator + Copy + Send + Sync> Engine<A> {
             &mut scratches,
             workers as usize + 1,
         )?;
+        let query = GatedQuery {
+            alloc: self.alloc,
+            query: &self.query,
+            gate,
+        };
         search_round(
             rt,
             self.alloc,
-            &self.query,
+            &query,
             &self.round,
             workers,
             &mut scratches,
@@ -449,7 +457,6 @@ impl<A: Allocator + Copy + Send + Sync> Engine<A> {
             out,
             reader,
             from,
-            gate,
         )?;
         self.pace = self.pace.after(rt, begun, bytes, workers + 1);
         self.scratches = scratches;

@@ -7,6 +7,8 @@
 
 mod engine;
 mod fault;
+mod gate;
+mod gated;
 pub mod laws;
 mod pace;
 mod reader;
@@ -17,9 +19,11 @@ mod setup;
 mod telling;
 
 pub use fault::RunFault;
+pub use gate::{FreeGate, Gate};
+pub use gated::GatedQuery;
 pub use pg_base::{MemSink, Out, Sink};
 pub use pg_files::{Files, MemFiles, ReadFault, Step};
-pub use pg_round::{FreeGate, Gate, Round, Unfinished, work};
+pub use pg_round::{Round, Unfinished, work};
 pub use pg_rows::{Format, Mode};
 pub use pg_selection::QueryText;
 pub use room::has_room_for;

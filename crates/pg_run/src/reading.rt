@@ -12,10 +12,10 @@ ghost use Rattle.pg_run.specs.declared.reader.ReadOutcome.TheVariants.{More};
 
 use crate::engine::{Engine, is_endless};
 use crate::fault::RunFault;
+use crate::gate::Gate;
 use crate::reader::{FileReader, ReadOutcome};
 use pg_base::Sink;
 use pg_files::Files;
-use pg_round::Gate;
 use std::alloc::Allocator;
 use std::sync::Wait;
 use std::thread::Threads;

@@ -17,6 +17,7 @@ ghost use Rattle.pg_run.specs.declared.fault.RunFault.TheVariants.{Sink as SinkF
 
 use crate::engine::Engine;
 use crate::fault::RunFault;
+use crate::gate::Gate;
 use crate::reader::FileReader;
 use crate::reading::read_file;
 use crate::setup::Setup;
@@ -24,7 +25,6 @@ use crate::telling::tell;
 use pg_base::{Cause, Sink, WriteError};
 use pg_files::{Files, Step};
 use pg_lines::Query;
-use pg_round::Gate;
 use pg_selection::QueryText;
 use std::alloc::{AllocError, Allocator};
 use std::sync::Wait;

@@ -5,18 +5,18 @@ use Rattle.pg_walk.specs.Scopes.{scope_of}
 use Rattle.pg_files.specs.Listed.{asked_for, files_past, sought}
 use Rattle.pg_base.specs.Sink.{Stream}
 use Rattle.pg_run.specs.Outcome.{BreaksOff, IsSearchFor}
-use Rattle.pg_command.specs.Asked.{asked_of, glob_files, input_name, scope_for, text_with}
+use Rattle.pg_request.specs.Asked.{asked_of, glob_files, input_name, scope_for, text_with}
 use Rattle.pg_words.specs.Filters.{filters_of}
 use Rattle.pg_command.specs.Answers.{Fails, HasReadFor}
-use Rattle.pg_command.specs.Reading.{FailsToReadAll, HasRead, contents_of}
-use Rattle.pg_command.specs.declared.fault.Fault.{Fault}
-use Rattle.pg_command.proofs.ReadingLemmas.{if_err}
+use Rattle.pg_request.specs.Reading.{FailsToReadAll, HasRead, contents_of}
+use Rattle.pg_request.specs.declared.fault.Fault.{Fault}
+use Rattle.pg_request.proofs.ReadingLemmas.{if_err}
 use Rattle.pg_command.proofs.StatusLemmas.{finishes_small}
 use Rattle.pg_command.proofs.WorkLemmas.{breaks_so, finishes_so, first_sought, work_of}
 use Rattle.pg_command.proofs.search.search.Goals as goal
 
-pub returns-in_err-run-clause-fault : goal.returns-in_err-run-clause-fault
-returns-in_err-run-clause-fault g c =
+pub returns-clause-fault : goal.returns-clause-fault
+returns-clause-fault g c =
     let asked = asked_of c.args.request.now in
     let contents = c.in_ok-lists.ensures.read.0 in
     let globs = contents_of c.in_ok-globs.globs.items in
@@ -53,23 +53,22 @@ returns-in_err-run-clause-fault g c =
     g.E.Sink.stream c.run.new.faults in
     let P : Fault → Type 0 = λ fault.
     Fails (tells tree) (answers tree) asked past past' out out' err err' fault in
-    if_err P _ c.from_residual-in_err-run.result c.from_residual-in_err-run.ensures.1
-    (λ fault h. subst P (sym h) (inr (inr (inr (record {
-      work = work_of tells answers tree asked globs between at (c.in_err-run.ensures.same_list ∙ first) past past'
+    subst P (sym c.fault_of_run.ensures) (inr (inr (inr (record {
+      work = work_of tells answers tree asked globs between at (c.in-Err.ensures.same_list ∙ first) past past'
           contents read files.walk.asked.items files.begins c.in_ok-setup.setup listed.setup files.done files.all_asked
           files.are_opened files.are_spared refl;
-      run = c.in_err-run.field-0.0;
+      run = c.in-Err.fault;
       is = refl;
       breaks = subst (λ t. BreaksOff t c.in_ok-setup.setup
           (files_past (input_name asked) files.done (asked_for files.walk.asked.items) past') out out' err err'
-          c.in_err-run.field-0.0)
-          text (breaks_so tells answers tree asked globs between at (c.in_err-run.ensures.same_list ∙ first) _
+          c.in-Err.fault)
+          text (breaks_so tells answers tree asked globs between at (c.in-Err.ensures.same_list ∙ first) _
           c.in_ok-setup.setup files.done (asked_for files.walk.asked.items) past' out out' err err'
-          c.in_err-run.field-0.0 c.in_err-run.ensures.err);
-    })))))
+          c.in-Err.fault c.in-Err.ensures.err);
+    }))))
 
-pub returns-clause-success : goal.returns-clause-success
-returns-clause-success g c =
+pub returns-in-Ok-clause-success : goal.returns-in-Ok-clause-success
+returns-in-Ok-clause-success g c =
     let asked = asked_of c.args.request.now in
     let contents = c.in_ok-lists.ensures.read.0 in
     let globs = contents_of c.in_ok-globs.globs.items in
@@ -99,8 +98,8 @@ returns-clause-success g c =
     let at = sought files.walk.walker.tree.now (map string_bytes files.walk.operands.items)
     (scope_of files.walk.walker.scope)
     files.spares_output (string_bytes files.input_name) (asked_for files.walk.asked.items) past' in
-    let done = c.in_ok-run.ensures.ok in
-    let is = c.in_ok-run.ensures.same_list ∙ first in
+    let done = c.in-Ok.ensures.ok in
+    let is = c.in-Ok.ensures.same_list ∙ first in
     record {
       work = work_of tells answers tree asked globs between at is past past' contents read files.walk.asked.items
           files.begins c.in_ok-setup.setup listed.setup files.done files.all_asked files.are_opened files.are_spared
@@ -111,8 +110,8 @@ returns-clause-success g c =
           files.done (asked_for files.walk.asked.items) past' _ _ _ _ _ done.2;
     }
 
-pub returns-clause-small : goal.returns-clause-small
-returns-clause-small g c = finishes_small c.in_ok-run.ensures.ok.2
+pub returns-in-Ok-clause-small : goal.returns-in-Ok-clause-small
+returns-in-Ok-clause-small g c = finishes_small c.in-Ok.ensures.ok.2
 
 pub returns-in_err-globs-clause-fault : goal.returns-in_err-globs-clause-fault
 returns-in_err-globs-clause-fault g c =

@@ -1,43 +1,34 @@
-use Rattle.std.proofs.Common.{List, [], ◌∷◌, refl, sym, ◌∙◌, subst}
+use Rattle.std.proofs.Common.{Ok, List, [], ◌∷◌, refl, sym, ◌∙◌, subst}
 use Rattle.std.proofs.lemmas.Result.{err_from_is_err_and}
 use Rattle.pg_selection.specs.Searched.{Searched}
-use Rattle.pg_round.specs.Receipts.{HasReceived}
-use Rattle.pg_round.proofs.ReceiptLemmas.{received_more, received_none, broken_more}
+use Rattle.pg_round.specs.Receipts.{HasReceived, Takes}
+use Rattle.pg_round.proofs.ReceiptLemmas.{takes_none, takes_more}
+use Rattle.pg_round.proofs.ReadingLemmas.{gone_on_none, gone_on_more}
 use Rattle.pg_round.proofs.receiving.take_all.Goals as goal
 
 pub loop-init : goal.loop-init
-loop-init g c = record {
-  more = (tt, tt);
-  tray = c.requires.take.0;
-  workers = refl;
-  failures = refl;
-  got = λ past st n s.
-      subst (λ (l : List Searched). HasReceived (g.S.Collector.stands c.args.collector.now) past l
-      (g.W.Sink.stream c.args.out.now).taken (g.W.Sink.stream c.args.out.now).taken) (sym c.requires.take.1)
-      (received_none (g.S.Collector.stands c.args.collector.now) past (g.W.Sink.stream c.args.out.now).taken st s);
-  ready = c.requires.reader;
-  read = λ r f h. h;
-}
+loop-init g c =
+    let stands = g.S.Collector.stands c.args.collector.now in let before = g.W.Sink.stream c.args.out.now in
+    record {
+      more = (tt, tt);
+      tray = c.requires.take.0;
+      workers = refl;
+      took = subst (λ (l : List Searched). Takes {T = Unit {0}} (Ok tt) stands (HasReceived stands l) before before)
+          (sym c.requires.take.1) (takes_none stands tt before);
+      read = gone_on_none c.requires.reader;
+    }
 
 pub loop-preserved-in-Some-take : goal.loop-preserved-in-Some-take
 loop-preserved-in-Some-take g c =
     let i = c.loop.invariant in
     let took = c.in-Some-take.ensures in
-    let got = c.in_ok-receive-in-Some-take.ensures in
+    let mid = g.S.Collector.stands c.loop.collector in let last = g.S.Collector.stands c.receive.new.collector in
     record {
       more = (tt, tt);
       tray = took.tray.0;
       workers = took.tray.1 ∙ i.workers;
-      failures = got.calm ∙ i.failures;
-      got = λ past st n s.
-          subst (λ (l : List Searched). HasReceived (g.S.Collector.stands c.receive.new.collector) past l
-          (g.W.Sink.stream c.args.out.now).taken (g.W.Sink.stream c.receive.new.out).taken) (sym took.some)
-          (received_more (g.S.Collector.stands c.loop.collector)
-          (g.S.Collector.stands c.receive.new.collector) past c.loop.take.taken (c.in-Some-take.found ∷ [])
-          (g.W.Sink.stream c.args.out.now).taken (g.W.Sink.stream c.loop.out).taken
-          (g.W.Sink.stream c.receive.new.out).taken
-          (i.got past st n s) (λ p h m e. got.ok p h m) n);
-      ready = i.ready;
+      took = takes_more _ tt mid c.loop.take.taken _ _ i.took _ last (c.in-Some-take.found ∷ []) _ _ took.some
+          c.in_ok-receive-in-Some-take.ensures.took;
       read = i.read;
     }
 
@@ -45,30 +36,28 @@ pub loop-preserved : goal.loop-preserved
 loop-preserved g c =
     let i = c.loop.invariant in
     let took = c.in-None-take.ensures in
+    let stands = g.S.Collector.stands c.args.collector.now in let last = g.S.Collector.stands c.loop.collector in
+    let before = g.W.Sink.stream c.args.out.now in let after = g.W.Sink.stream c.loop.out in
     record {
       more = (tt, tt);
       tray = took.tray.0;
       workers = took.tray.1 ∙ i.workers;
-      failures = i.failures;
-      got = λ past st n s. subst (λ (l : List Searched). HasReceived (g.S.Collector.stands c.loop.collector) past l
-          (g.W.Sink.stream c.args.out.now).taken (g.W.Sink.stream c.loop.out).taken) (sym took.none)
-          (i.got past st n s);
-      ready = c.read_on-looks.ensures.ready;
-      read = λ r f h. c.read_on-looks.ensures.read r f (i.read r f h);
+      took = subst (λ (l : List Searched). Takes {T = Unit {0}} (Ok tt) stands (HasReceived last l) before after)
+          (sym took.none) i.took;
+      read = gone_on_more i.read c.read_on-looks.ensures;
     }
 
 pub returns-then-is_over : goal.returns-then-is_over
 returns-then-is_over g c =
     let i = c.loop.invariant in
     let took = c.in-None-take.ensures in
+    let stands = g.S.Collector.stands c.args.collector.now in let last = g.S.Collector.stands c.loop.collector in
+    let before = g.W.Sink.stream c.args.out.now in let after = g.W.Sink.stream c.loop.out in
     record {
       same = (took.tray.0, took.tray.1 ∙ i.workers);
-      ok = λ past st n s. subst (λ (l : List Searched). HasReceived (g.S.Collector.stands c.loop.collector) past l
-          (g.W.Sink.stream c.args.out.now).taken (g.W.Sink.stream c.loop.out).taken) (sym took.none)
-          (i.got past st n s);
-      err = λ past st n s. tt;
-      calm = i.failures;
-      ready = i.ready;
+      took = subst (λ (l : List Searched). Takes {T = Unit {0}} (Ok tt) stands (HasReceived last l) before after)
+          (sym took.none) i.took;
+      fault = tt;
       read = i.read;
     }
 
@@ -77,18 +66,12 @@ returns-in_err-receive-in-Some-take g c =
     let p = err_from_is_err_and c.from_residual.result c.from_residual.ensures.1 in
     let i = c.loop.invariant in
     let took = c.in-Some-take.ensures in
-    let b = (g.W.Sink.stream c.args.out.now).taken in let a = (g.W.Sink.stream c.receive.new.out).taken in
-    rw p.1 (record {
+    let mid = g.S.Collector.stands c.loop.collector in let last = g.S.Collector.stands c.receive.new.collector in
+    rw (p.1, p.2) (record {
       same = (took.tray.0, took.tray.1 ∙ i.workers);
-      ok = λ past st n s. tt;
-      err = λ past st n s.
-          broken_more (g.S.Collector.stands c.loop.collector) past c.loop.take.taken b
-          (g.W.Sink.stream c.loop.out).taken a
-          (g.W.Sink.stream c.args.out.now).failures (g.W.Sink.stream c.loop.out).failures
-          (g.W.Sink.stream c.receive.new.out).failures
-          (i.got past st n s) i.failures (λ p h m e. c.in_err-receive-in-Some-take.ensures.err p h m) n;
-      calm = tt;
-      ready = i.ready;
+      took = takes_more _ tt mid c.loop.take.taken _ _ i.took _ last (c.in-Some-take.found ∷ []) _ _ took.some
+          c.in_err-receive-in-Some-take.ensures.took;
+      fault = c.in_err-receive-in-Some-take.ensures.fault;
       read = i.read;
     })
 

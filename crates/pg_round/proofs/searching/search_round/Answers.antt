@@ -1,16 +1,18 @@
-use Rattle.std.proofs.Common.{◌∙◌, List, ap, refl, sym, subst, arith, ℕ, ◌≡◌, ◌+◌, ◌<◌, ◌≤◌}
+use Rattle.std.proofs.Common.{◌∙◌, ap, sym, subst, arith, ℕ, ◌≡◌, ◌+◌, ◌<◌, ◌≤◌}
 use Rattle.std.proofs.lemmas.Result.{err_from_is_err_and}
-use Rattle.pg_selection.specs.Searched.{Searched}
-use Rattle.pg_round.specs.Receipts.{HasDelivered}
-use Rattle.pg_round.specs.declared.searching.RoundFault.TheVariants.{OutOfMemory, Sink as SinkFails}
-use Rattle.pg_round.proofs.ReceiptLemmas.{broken_more, failed_none, failed_after}
-use Rattle.pg_round.proofs.ReceiptLemmas.{round_done, same_fault, no_fault, no_memory_fault, no_sink_fault}
+use Rattle.pg_workers.specs.Workers.{AreBack}
+use Rattle.pg_round.proofs.ReadingLemmas.{gone_on_none}
+use Rattle.pg_round.proofs.ReceiptLemmas.{takes_no_memory, takes_fault, takes_refused, takes_round}
 use Rattle.pg_round.proofs.searching.search_round.Goals as goal
 
 -- what was lent is back
 scratches_back : (left count old opened back new : ℕ) → opened ≡ count → left + count ≡ old → back ≡ opened
     → new ≡ left + back → new ≡ old
 scratches_back left count old opened back new o l b n = omega arith
+
+-- lists of the same length
+same_count : (a b len len' : ℕ) → a ≡ len → b ≡ len' → len' ≡ len → b ≡ a
+same_count a b len len' p q same = omega arith
 
 pub open_round-requires-clause-few : goal.open_round-requires-clause-few
 open_round-requires-clause-few g c =
@@ -19,14 +21,26 @@ open_round-requires-clause-few g c =
     (n.0, n.1, subst (λ k. c.count_workers-count.result ≤ k) l n.2, c.requires.few.2)
 
 pub close_round-requires-clause-spent : goal.close_round-requires-clause-spent
-close_round-requires-clause-spent g c = (c.in_ok-workers.ensures.spent, sym c.in_ok-board.ensures.board.0)
+close_round-requires-clause-spent g c = (c.in_ok-search_rest.ensures.spent, sym c.in_ok-board.ensures.board.0)
+
+pub search_rest-requires : goal.search_rest-requires
+unfolding AreBack
+search_rest-requires g c =
+    let opened = c.in_ok-board.ensures in let back = c.in_ok-workers.ensures in
+    let count = same_count _ _ _ _ c.in_ok-board.field-0.workers.ok.0 c.in_ok-workers.workers.ok.0 back.back.0 in
+    record {
+      ready = (sym opened.board.0, c.requires.may);
+      worked = (back.back.1, subst (λ k. 0 < k) (sym (count ∙ opened.workers.0)) c.count_workers-count.ensures.0);
+    }
 
 pub close_round-requires-clause-all : goal.close_round-requires-clause-all
+unfolding AreBack
 close_round-requires-clause-all g c =
-    let opened = c.in_ok-board.ensures in let back = c.in_ok-workers.ensures in (
-      back.finished.0 ∙ opened.workers.0 ∙ sym opened.board.1,
-      back.finished.0 ∙ opened.workers.0
-          ∙ sym (back.same.1 ∙ ap (λ t. t.workers) opened.take),
+    let opened = c.in_ok-board.ensures in let back = c.in_ok-workers.ensures in
+    let same = same_count _ _ _ _ c.in_ok-board.field-0.workers.ok.0 c.in_ok-workers.workers.ok.0 back.back.0 in
+    let count = c.in_ok-search_rest.ensures.finished.0 ∙ same ∙ opened.workers.0 in (
+      count ∙ sym opened.board.1,
+      count ∙ sym (back.same.1 ∙ ap (λ t. t.workers) opened.take),
       back.same.0,
     )
 
@@ -37,13 +51,8 @@ pub returns-in_err-board : goal.returns-in_err-board
 returns-in_err-board g c =
     let p = err_from_is_err_and c.from_residual.result c.from_residual.ensures.1 in
     rw (p.1, p.2) (record {
-      ok = λ past st n s. tt;
-      err = λ past st n s. failed_none past (g.W.Sink.stream c.args.out.now).taken s;
-      cause = λ past st n s is. no_sink_fault is;
-      calm = tt;
-      memory = λ is. refl;
-      ready = c.requires.reader;
-      read = λ r f h. h;
+      took = takes_no_memory _ _ _;
+      read = gone_on_none c.requires.reader;
       scratches = tt;
     })
 
@@ -51,81 +60,50 @@ pub returns-in_err-workers : goal.returns-in_err-workers
 returns-in_err-workers g c =
     let p = err_from_is_err_and c.from_residual-in_err-workers.result c.from_residual-in_err-workers.ensures.1 in
     let e = c.in_err-workers.ensures in
-    rw (p.1, p.2) (record {
-      ok = λ past st n s. tt;
-      err = e.err;
-      cause = λ past st n s is. e.cause past st n s (same_fault c.in_err-workers.field-0.0 SinkFails is);
-      calm = tt;
-      memory = λ is. e.memory (same_fault c.in_err-workers.field-0.0 OutOfMemory is);
-      ready = e.ready;
-      read = e.read;
-      scratches = tt;
-    })
+    rw (p.1, p.2) (record { took = takes_fault _ _ _ _ _ _ e.took; read = e.read; scratches = tt })
+
+pub returns-in_err-search_rest : goal.returns-in_err-search_rest
+returns-in_err-search_rest g c =
+    let left = c.from_residual-in_err-search_rest in
+    let p = err_from_is_err_and left.result left.ensures.1 in
+    let e = c.in_ok-workers.ensures in
+    let mid = g.S.Collector.stands c.search_beside.new.collector in let taken = c.search_beside.new.take.taken in
+    rw (p.1, p.2) (record { took = takes_refused _ _ mid taken _ _ e.took _; read = e.read; scratches = tt })
 
 pub returns-in_err-delivered : goal.returns-in_err-delivered
 returns-in_err-delivered g c =
     let p = err_from_is_err_and c.from_residual-in_err-delivered.result c.from_residual-in_err-delivered.ensures.1 in
     let e = c.in_ok-workers.ensures in
-    rw (p.1, p.2) (record {
-      ok = λ past st n s. tt;
-      err = λ past st n s. failed_after (g.S.Collector.stands c.search_all.new.collector) past
-          c.search_all.new.take.taken (g.W.Sink.stream c.args.out.now).taken
-          (g.W.Sink.stream c.search_all.new.out).taken
-          (e.ok past st n s);
-      cause = λ past st n s is. no_sink_fault is;
-      calm = tt;
-      memory = λ is. e.calm;
-      ready = e.ready;
-      read = e.read;
-      scratches = tt;
-    })
+    let mid = g.S.Collector.stands c.search_beside.new.collector in let taken = c.search_beside.new.take.taken in
+    rw (p.1, p.2) (record { took = takes_refused _ _ mid taken _ _ e.took _; read = e.read; scratches = tt })
 
 pub returns-in_err-deliver : goal.returns-in_err-deliver
 returns-in_err-deliver g c =
     let p = err_from_is_err_and c.from_residual-in_err-deliver.result c.from_residual-in_err-deliver.ensures.1 in
-    let b = (g.W.Sink.stream c.args.out.now).taken in let m = (g.W.Sink.stream c.search_all.new.out).taken in let a =
-    (g.W.Sink.stream c.deliver.new.out).taken in
     let e = c.in_ok-workers.ensures in
-    let mid = g.S.Collector.stands c.search_all.new.collector in let taken = c.search_all.new.take.taken in
-    let f = (g.W.Sink.stream c.args.out.now).failures in
-    let f' = (g.W.Sink.stream c.search_all.new.out).failures in
-    let f'' = (g.W.Sink.stream c.deliver.new.out).failures in
+    let d = c.in_ok-delivered.ensures in
+    let mid = g.S.Collector.stands c.search_beside.new.collector in let taken = c.search_beside.new.take.taken in
+    let last = g.S.Collector.stands c.deliver.new.collector in
     rw (p.1, p.2) (record {
-      ok = λ past st n s. tt;
-      err = λ past st n s. (broken_more mid past taken b m a f f' f'' (e.ok past st n s) e.calm
-          c.in_err-deliver.ensures.err n).0;
-      cause = λ past st n s is. (broken_more mid past taken b m a f f' f'' (e.ok past st n s) e.calm
-          c.in_err-deliver.ensures.err n).1;
-      calm = tt;
-      memory = λ is. no_memory_fault is;
-      ready = e.ready;
+      took = takes_round _ _ mid taken _ _ e.took _ last _ _ _ _ _ d.taken d.all c.in_err-deliver.ensures.took;
       read = e.read;
       scratches = tt;
     })
 
 pub returns : goal.returns
+unfolding AreBack
 returns g c =
-    let b = (g.W.Sink.stream c.args.out.now).taken in let m = (g.W.Sink.stream c.search_all.new.out).taken in let a =
-    (g.W.Sink.stream c.deliver.new.out).taken in
-    let mid = g.S.Collector.stands c.search_all.new.collector in let last =
-    g.S.Collector.stands c.deliver.new.collector in
-    let left = c.in_ok-delivered.delivered in
     let e = c.in_ok-workers.ensures in
+    let d = c.in_ok-delivered.ensures in
     let opened = c.in_ok-board.ensures.workers.0 in let lent = c.in_ok-board.ensures.scratches.1 in
-    let back = e.finished.0 in let given = c.in_ok-delivered.ensures.count in
+    let rest = c.in_ok-search_rest.ensures.finished.0
+    ∙ same_count _ _ _ _ c.in_ok-board.field-0.workers.ok.0 c.in_ok-workers.workers.ok.0 e.back.0 in
+    let mid = g.S.Collector.stands c.search_beside.new.collector in let taken = c.search_beside.new.take.taken in
+    let last = g.S.Collector.stands c.deliver.new.collector in
     record {
-      ok = λ past st n s.
-          round_done mid last past c.args.query.now.text c.args.blocks.now left.lists
-          c.search_all.new.take.taken b m a c.in_ok-delivered.ensures.all (e.ok past st n s)
-          (λ p h f i. subst (λ (l : List Searched). HasDelivered last p left.lists l m a)
-          c.in_ok-delivered.ensures.taken (c.in_ok-deliver.ensures.ok p h f i)) n;
-      err = λ past st n s. tt;
-      cause = λ past st n s is. no_fault _ _ is;
-      calm = c.in_ok-deliver.ensures.calm ∙ e.calm;
-      memory = λ is. no_fault _ _ is;
-      ready = e.ready;
+      took = takes_round _ _ mid taken _ _ e.took _ last _ _ _ _ _ d.taken d.all c.in_ok-deliver.ensures.took;
       read = e.read;
-      scratches = (scratches_back _ _ _ _ _ _ opened lent back given, c.in_ok-delivered.ensures.fits);
+      scratches = (scratches_back _ _ _ _ _ _ opened lent rest d.count, d.fits);
     }
 
 pub count_workers-count-requires : goal.count_workers-count-requires
@@ -134,21 +112,19 @@ count_workers-count-requires g c =
     let l = c.len.ensures in
     (subst (λ k. 0 < k) (sym l) n.0, subst (λ k. k ≤ 65) (sym l) n.1, n.2, n.3)
 
-pub search_all-requires-clause-ready : goal.search_all-requires-clause-ready
-search_all-requires-clause-ready g c κs within = (sym c.in_ok-board.ensures.board.0, c.requires.short)
+pub search_beside-requires-clause-ready : goal.search_beside-requires-clause-ready
+search_beside-requires-clause-ready g c κs within = (sym c.in_ok-board.ensures.board.0, c.requires.may)
 
-pub search_all-requires-clause-finished : goal.search_all-requires-clause-finished
-search_all-requires-clause-finished g c κs within =
-    let w = c.in_ok-board.ensures.workers in let n = c.count_workers-count.ensures in
-    (w.1, subst (λ k. 0 < k) (sym w.0) n.0)
+pub search_beside-requires-clause-finished : goal.search_beside-requires-clause-finished
+search_beside-requires-clause-finished g c κs within = c.in_ok-board.ensures.workers.1
 
-pub search_all-requires-clause-sees : goal.search_all-requires-clause-sees
-search_all-requires-clause-sees g c κs within = c.requires.sees
-
-pub search_all-requires-clause-take : goal.search_all-requires-clause-take
-search_all-requires-clause-take g c κs within =
+pub search_beside-requires-clause-take : goal.search_beside-requires-clause-take
+search_beside-requires-clause-take g c κs within =
     let t = c.in_ok-board.ensures.take in
     (ap (λ t. t.tray) t, ap (λ t. t.taken) t)
 
-pub search_all-requires-clause-reader : goal.search_all-requires-clause-reader
-search_all-requires-clause-reader g c κs within = c.requires.reader
+pub search_beside-requires-clause-reader : goal.search_beside-requires-clause-reader
+search_beside-requires-clause-reader g c κs within = c.requires.reader
+
+pub search_beside-requires-clause-sees : goal.search_beside-requires-clause-sees
+search_beside-requires-clause-sees g c κs within = c.requires.sees

@@ -20,17 +20,10 @@ returns-clause-took g c =
     rw (c.take-1.given.1 (sym m.2), c.collector-1.given.1 (sym m.3), c.out-1.given.1 (sym m.4))
     c.join_mut.ensures.1.met.1.1.0
 
-pub returns-clause-calm : goal.returns-clause-calm
-returns-clause-calm g c =
-    let m = c.join_mut.ensures.1.met.0 in
-    rw (c.out-1.given.1 (sym m.4)) c.join_mut.ensures.1.met.1.1.1.0
-
-pub returns-clause-ready : goal.returns-clause-ready
-returns-clause-ready g c =
-    let m = c.join_mut.ensures.1.met.0 in
-    rw (c.reader-1.given.1 (sym m.5), c.from-1.given.1 (sym m.6)) c.join_mut.ensures.1.met.1.1.1.1.0
+pub returns-clause-fault : goal.returns-clause-fault
+returns-clause-fault g c = c.join_mut.ensures.1.met.1.1.1.0
 
 pub returns-clause-read : goal.returns-clause-read
 returns-clause-read g c =
     let m = c.join_mut.ensures.1.met.0 in
-    rw (c.reader-1.given.1 (sym m.5), c.from-1.given.1 (sym m.6)) c.join_mut.ensures.1.met.1.1.1.1.1
+    rw (c.reader-1.given.1 (sym m.5), c.from-1.given.1 (sym m.6)) c.join_mut.ensures.1.met.1.1.1.1

@@ -10,7 +10,7 @@ search_round-requires-clause-ready g c κs within =
     (r.0, r.1.steps, recut r.1.cuts _ refl refl)
 
 pub returns-clause-reads_on : goal.returns-clause-reads_on
-returns-clause-reads_on g c = (c.search_round.ensures.read _ _ nothing_read).reads_on
+returns-clause-reads_on g c = (c.search_round.ensures.read.read _ _ nothing_read).reads_on
 
 pub returns-clause-room : goal.returns-clause-room
 returns-clause-room g c =
@@ -20,7 +20,7 @@ returns-clause-room g c =
 
 pub returns-clause-outcome : goal.returns-clause-outcome
 returns-clause-outcome g c = λ aim h.
-    let on = c.search_round.ensures.read _ _ nothing_read in
+    let on = c.search_round.ensures.read.read _ _ nothing_read in
     let cuts = on.cuts aim h.steps (recut h.cuts _ refl refl) in
     MatchResult-weaker c.search_round.result (c.search_round.ensures.empties.outcome aim h.steps h.holds)
     (λ _ k. record { steps = h.steps; holds = k.0; cuts = cuts }) (λ fault k. rest_breaks h _ _ _ fault cuts k)

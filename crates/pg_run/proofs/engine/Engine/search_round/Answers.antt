@@ -7,14 +7,15 @@ use Rattle.pg_blocks.specs.Blocks.{BlockData}
 use Rattle.pg_seq.specs.Standing.{IsAfter}
 use Rattle.pg_run.specs.Scratches.{AreScratches}
 use Rattle.pg_run.specs.Holding.{past_of, format_of}
-use Rattle.pg_round.specs.Results.{HasShortLines}
+use Rattle.pg_run.specs.Searches.{HasShortLines, IsFoundIn}
 use Rattle.pg_round.specs.Receipts.{HasRound}
+use Rattle.pg_round.proofs.ReadingLemmas.{gone_on_none}
 use Rattle.pg_run.proofs.HoldLemmas.{broke_now, ok_of_err, fails_by}
 use Rattle.pg_run.proofs.RoundLemmas.{short_round, safe_now, round_done, round_failed}
 use Rattle.pg_run.proofs.engine.Engine.search_round.Goals as goal
 
-pub search_round-requires-clause-short : goal.search_round-requires-clause-short
-search_round-requires-clause-short g c κs within =
+pub search_round-requires-clause-may : goal.search_round-requires-clause-may
+search_round-requires-clause-may g c κs within =
     let h = c.requires.holds.2 in
     let text = c.args.self.now.query.text in
     let S : List (Arc BlockData g.row.A.Denot) → Type 0 = λ xs. All (HasShortLines text) xs in
@@ -39,9 +40,9 @@ returns-in_err-search_round-clause-empties g c =
           let out' = g.W.Sink.stream c.search_round.new.out in
           let past = past_of aim.query (format_of aim) h.events h.written in
           let fault = c.in_err-search_round.field-0.0 in
+          let failure = err.took.outcome past h.stands refl (safe_now h) in
           fails_by failed.result _ _ failed.ensures.1
-          (round_failed h out' fault (err.err past h.stands refl (safe_now h))
-          (err.cause past h.stands refl (safe_now h)) err.memory);
+          (round_failed h out' fault failure.0 failure.1 err.took.calm);
     }
 
 pub returns-clause-empties : goal.returns-clause-empties
@@ -53,11 +54,11 @@ returns-clause-empties g c = record {
       let past = past_of aim.query (format_of aim) h.events h.written in
       let text = c.args.self.now.query.text in
       let R : List (Arc BlockData g.row.A.Denot) → Type 0 =
-      λ xs. HasRound (IsAfter c.search_round.new.collector) past text xs (g.W.Sink.stream c.args.out.now).taken
-      out'.taken in
+      λ xs. HasRound (IsAfter c.search_round.new.collector) (IsFoundIn text) xs past
+      (g.W.Sink.stream c.args.out.now).taken out'.taken in
       round_done h _ out' h.same h.set h.count (ap (λ xs. map arc_value xs) c.clear.ensures.items) text h.same
-      (subst R c.deref.ensures.value (c.in_ok-search_round.ensures.ok past h.stands refl (safe_now h)))
-      c.in_ok-search_round.ensures.calm;
+      (subst R c.deref.ensures.value (c.in_ok-search_round.ensures.took.outcome past h.stands refl (safe_now h)))
+      c.in_ok-search_round.ensures.took.calm;
 }
 
 pub search_round-requires-clause-fits : goal.search_round-requires-clause-fits
@@ -136,4 +137,4 @@ pub search_round-requires-clause-reader : goal.search_round-requires-clause-read
 search_round-requires-clause-reader g c κs within = c.requires.ready
 
 pub returns-in_err-equip-clause-read : goal.returns-in_err-equip-clause-read
-returns-in_err-equip-clause-read g c = λ r f before. before
+returns-in_err-equip-clause-read g c = gone_on_none c.requires.ready

@@ -16,7 +16,6 @@ keep-requires g c =
     let m = c.requires.ready.3.1 in
     let past = past_of aim.query (format_of aim) h.events h.written in
     let b : arc_value c.in_ok-block.block ≡ c.args.block = c.in_ok-block.ensures.ok in
-    let same : arc_value c.in_ok-searched.searched ≡ c.args.block = c.in_ok-searched.ensures ∙ b in
     let F : BlockData → Type 0 = λ x. MayFollow (terminator aim.query) (plan past) (Announces x) in
     let M : BlockData → Type 0 = λ x. IsAfter c.announce.new.self (planned past (Announces x)) in
     let may = subst F (sym b) (may_past h (Announces c.args.block) m) in (
@@ -24,7 +23,7 @@ keep-requires g c =
       subst M b (c.in_ok-announce.ensures.ok past h.stands may),
       is_first h c.args.block m c.in_ok-found.found
           (c.in_ok-found.ensures.found
-          ∙ (ap (λ x. record { query = c.args.self.now.query.text; block = x }) same
+          ∙ (ap (λ x. record { query = c.args.self.now.query.text; block = x }) b
           ∙ ap (λ x. record { query = x; block = c.args.block }) h.same)),
     )
 
@@ -34,14 +33,13 @@ returns-clause-ok g c = λ aim steps out ready.
     let m = ready.1 in
     let past = past_of aim.query (format_of aim) h.events h.written in
     let b : arc_value c.in_ok-block.block ≡ c.args.block = c.in_ok-block.ensures.ok in
-    let same : arc_value c.in_ok-searched.searched ≡ c.args.block = c.in_ok-searched.ensures ∙ b in
     let F : BlockData → Type 0 = λ x. MayFollow (terminator aim.query) (plan past) (Announces x) in
     let M : BlockData → Type 0 = λ x. IsAfter c.announce.new.self (planned past (Announces x)) in
     let may = subst F (sym b) (may_past h (Announces c.args.block) m) in
     let middle = subst M b (c.in_ok-announce.ensures.ok past h.stands may) in
     let found : c.in_ok-found.found ≡ record { query = aim.query.text; block = c.args.block } =
     c.in_ok-found.ensures.found
-    ∙ (ap (λ x. record { query = c.args.self.now.query.text; block = x }) same
+    ∙ (ap (λ x. record { query = c.args.self.now.query.text; block = x }) b
     ∙ ap (λ x. record { query = x; block = c.args.block }) h.same) in
     let none = ap (λ xs. map arc_value xs) (c.args.self.now.at_once c.requires.at_once) in
     holds_block h _ c.args.block c.in_ok-found.found m h.same h.set h.count none none found
@@ -55,14 +53,6 @@ pub returns-in_err-block-clause-ok : goal.returns-in_err-block-clause-ok
 returns-in_err-block-clause-ok g c =
     λ aim steps out ready.
     ok_of_err c.from_residual.result _ c.from_residual.ensures.0
-
-pub returns-in_err-searched-clause-none : goal.returns-in_err-searched-clause-none
-returns-in_err-searched-clause-none g c = c.args.self.now.at_once c.requires.at_once
-
-pub returns-in_err-searched-clause-ok : goal.returns-in_err-searched-clause-ok
-returns-in_err-searched-clause-ok g c =
-    λ aim steps out ready.
-    ok_of_err c.from_residual-in_err-searched.result _ c.from_residual-in_err-searched.ensures.0
 
 pub returns-in_err-found-clause-none : goal.returns-in_err-found-clause-none
 returns-in_err-found-clause-none g c = c.args.self.now.at_once c.requires.at_once
@@ -82,30 +72,6 @@ returns-in_err-announce-clause-ok g c =
 
 pub returns-clause-none : goal.returns-clause-none
 returns-clause-none g c = c.args.self.now.at_once c.requires.at_once
-
-pub invariant_of-self : goal.invariant_of-self
-invariant_of-self g c =
-    let s = c.args.self.now in
-    let fits = c.search_block-answer.ensures.fits in
-    record { fits = fits; scratches_fit = s.scratches_fit; endless = s.endless; at_once = s.at_once; few = s.few }
-
-pub invariant_of-self-in-Break-branch-4 : goal.invariant_of-self-in-Break-branch-4
-invariant_of-self-in-Break-branch-4 g c =
-    let s = c.args.self.now in
-    let fits = c.search_block-answer.ensures.fits in
-    record { fits = fits; scratches_fit = s.scratches_fit; endless = s.endless; at_once = s.at_once; few = s.few }
-
-pub invariant_of-self-in-Break-branch-5 : goal.invariant_of-self-in-Break-branch-5
-invariant_of-self-in-Break-branch-5 g c =
-    let s = c.args.self.now in
-    let fits = c.search_block-answer.ensures.fits in
-    record { fits = fits; scratches_fit = s.scratches_fit; endless = s.endless; at_once = s.at_once; few = s.few }
-
-pub invariant_of-self-2 : goal.invariant_of-self-2
-invariant_of-self-2 g c =
-    let s = c.args.self.now in
-    let fits = c.search_block-answer.ensures.fits in
-    record { fits = fits; scratches_fit = s.scratches_fit; endless = s.endless; at_once = s.at_once; few = s.few }
 
 pub returns-in_err-kept-clause-none : goal.returns-in_err-kept-clause-none
 returns-in_err-kept-clause-none g c = c.args.self.now.at_once c.requires.at_once

@@ -1,0 +1,3 @@
+pub mod ReadingLemmas
+pub mod GlobFileLemmas
+mod GlobLemmas

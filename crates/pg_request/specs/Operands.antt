@@ -1,0 +1,20 @@
+-- What the operands of a request are.
+use Rattle.std.specs.Prelude.{◌≡◌, ℕ, Bool, not, ◌&&◌, List, [], ◌∷◌, Option, Some, None}
+use Rattle.pg_walk.specs.Answers.{Answers as Tree}
+use Rattle.pg_walk.specs.Places.{is_standard_input}
+use Rattle.pg_walk.specs.declared.tree.FileKind.{FileKind}
+use Rattle.pg_walk.specs.declared.tree.FileKind.TheVariants.{Regular, Directory, Link, Other}
+
+abbrev pub is_directory : Option FileKind → Bool
+is_directory None = Bool.false
+is_directory (Some Regular) = Bool.false
+is_directory (Some Directory) = Bool.true
+is_directory (Some Link) = Bool.false
+is_directory (Some Other) = Bool.false
+
+-- Where there is one operand, this says whether it is a directory, links followed; `-` is none.
+abbrev pub IsDirectory : Tree → List (List ℕ) → Bool → Type 0
+IsDirectory tree [] directory = Unit {0}
+IsDirectory tree (file ∷ []) directory =
+    directory ≡ (not (is_standard_input file) && is_directory (tree.kind file Bool.true))
+IsDirectory tree (file ∷ other ∷ files) directory = Unit {0}

@@ -1,0 +1,19 @@
+//! What a request asks for, as it is read before the run: the files of patterns and of globs, the query, which part of
+//! the trees is searched, and what a terminal changes.
+//!
+//! The faults of the program stand here, below all that meet them; how they are told is the command's.
+#![tactic(auto)]
+
+mod colors;
+mod fault;
+mod names;
+mod patterns;
+mod query;
+mod scope;
+
+pub use colors::request_on;
+pub use fault::Fault;
+pub use names::{is_directory, operands_of};
+pub use patterns::{read_globs, read_patterns};
+pub use query::text_of;
+pub use scope::read_scope;

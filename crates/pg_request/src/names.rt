@@ -1,0 +1,44 @@
+//! The operands of a request, and whether rows have names.
+ghost use Rattle.std.specs.Prelude.{◌≡◌, ◌∷◌, [], codes, false, map, IfOk};
+ghost use Rattle.std.specs.String.{string_bytes};
+ghost use Rattle.pg_syntax.specs.Slices.{bytes_of};
+ghost use Rattle.pg_request.specs.Operands.{IsDirectory};
+
+use pg_walk::{FileKind, FileTree, LookFault};
+use std::alloc::{AllocError, Global};
+
+/// Whether the one operand is a directory, links followed; what can't be looked at is none. With several operands the
+/// answer is false, and doesn't matter.
+///
+/// # Errors
+///
+/// Only where a request for memory was refused.
+pub fn is_directory<T: FileTree>(tree: &T, files: &[&str]) -> Result<bool, AllocError>
+    ensures is { T.tells tree.now →
+        IfOk result (IsDirectory (T.answers tree.now) (bytes_of files.now)) }
+    ensures standard_input { bytes_of files.now ≡ codes "-" ∷ [] → IfOk result (λ directory. directory ≡ false) }
+{
+    let [file] = files else {
+        return Ok(false);
+    };
+    if *file == "-" {
+        return Ok(false);
+    }
+    match tree.kind(file, true) {
+        Ok(kind) => Ok(kind == FileKind::Directory),
+        Err(LookFault::Failed) => Ok(false),
+        Err(LookFault::OutOfMemory) => Err(AllocError),
+    }
+}
+
+/// The operands, as a walk takes them. A refused request for memory is the only error.
+pub fn operands_of(alloc: Global, files: &[&str]) -> Result<Vec<String>, AllocError>
+    ensures { IfOk result (λ operands. map string_bytes operands.items ≡ bytes_of files.now) }
+{
+    let mut operands = Vec::with_capacity(alloc, files.len())?;
+    for file in files {
+        let operand = String::from_str(alloc, file)?;
+        operands.push(operand)?;
+    }
+    Ok(operands)
+}
