@@ -76,6 +76,7 @@ ALONE = """\
 """
 
 # Threads start: the first file is long enough for them, and the others are searched by threads because the words say so.
+# How many requests are made hangs on which of them draws a block first, for each fills a cache of its own.
 SPREAD = """\
 --workers 4 -c -E [xyz][a-c] long
 --always-spread --workers 2 --block 1 --round 3 -n -C 1 x row
@@ -135,6 +136,13 @@ class Outcome:
     def was_refused(self):
         return self.asked is not None and self.asked[2] > 0
 
+    def ended_before(self, key, number):
+        """Whether the run never came to the request or the thread of that number, so that none was refused."""
+        if self.asked is None or self.was_refused():
+            return False
+        requests, threads, _ = self.asked
+        return (threads if key == "REFUSE_THREAD" else requests) < number
+
 
 class Runs:
     """Runs of the program with the library in it."""
@@ -179,26 +187,30 @@ def tell(line, key, number, found):
     print(f"{line}: {key}={number}: {texts}", flush=True)
 
 
-def refused(runs, line, key, whole, varies):
-    """The faults of a line whose requests are refused in turn, and how often the answer was that there is no memory.
-    A run in which nothing was refused shows nothing, and is a fault unless their number varies."""
+def was_tried(found, key, number, is_threaded):
+    """Whether what a number names was refused; or, since with threads the count varies, the run made fewer."""
+    return found.was_refused() or is_threaded and found.ended_before(key, number)
+
+
+def refused(runs, line, key, whole, is_threaded):
+    """The faults of a line whose requests are refused in turn, and how often the answer was that there is no memory."""
     faults, told, most = 0, 0, max(whole.asked[0], 1)
     with ThreadPoolExecutor(os.cpu_count()) as pool:
         for number, found in enumerate(pool.map(lambda at: runs.run(line, key, at), range(1, most + 1)), 1):
             told += found.error.endswith(OUT_OF_MEMORY)
-            if not (varies or found.was_refused()) or not is_right(found, whole):
+            if not was_tried(found, key, number, is_threaded) or not is_right(found, whole):
                 faults += 1
                 tell(line, key, number, found)
     return faults, told
 
 
-def unthreaded(runs, line, whole, varies):
+def unthreaded(runs, line, whole):
     """The faults of a line whose threads aren't started in turn."""
     faults = 0
     for number in range(1, whole.asked[1] + 1):
         found = runs.run(line, "REFUSE_THREAD", number)
         is_same = (found.status, found.output, found.error) == (whole.status, whole.output, whole.error)
-        if not (varies or found.was_refused()) or not is_same:
+        if not was_tried(found, "REFUSE_THREAD", number, True) or not is_same:
             faults += 1
             tell(line, "REFUSE_THREAD", number, found)
     return faults
@@ -211,18 +223,18 @@ def is_usable(whole, is_threaded):
     return 0 < whole.asked[0] <= MOST and is_threaded == (whole.asked[1] > 0)
 
 
-def check(runs, line, is_threaded, varies):
-    """Whether a line has no fault. `varies` says that so does the number of its requests."""
+def check(runs, line, is_threaded):
+    """Whether a line has no fault."""
     whole = runs.whole(line)
     if not is_usable(whole, is_threaded):
         tell(line, "nothing refused", 0, whole)
         return False
-    once, told = refused(runs, line, "REFUSE_REQUEST", whole, varies)
-    lasting, told_lasting = refused(runs, line, "REFUSE_REQUESTS_FROM", whole, varies)
+    once, told = refused(runs, line, "REFUSE_REQUEST", whole, is_threaded)
+    lasting, told_lasting = refused(runs, line, "REFUSE_REQUESTS_FROM", whole, is_threaded)
     are_told = told > 0 and told_lasting > 0
     if not are_told:
         print(f"{line}: of {whole.asked[0]} refused requests none was told", flush=True)
-    return once + lasting + unthreaded(runs, line, whole, varies) == 0 and are_told
+    return once + lasting + unthreaded(runs, line, whole) == 0 and are_told
 
 
 def build(folder):
@@ -253,9 +265,8 @@ def main():
             print("memory: the library that refuses requests can't be built\n0 passed, 1 failed")
             return 1
         runs = Runs(program, library, folder, reports)
-        kinds = ((ALONE, False, False), (SPREAD, True, False), (AHEAD, True, True))
-        lines = [(line, *kind) for text, *kind in kinds for line in text.splitlines()]
-        passed = sum(check(runs, line, is_threaded, varies) for line, is_threaded, varies in lines)
+        lines = [(line, text != ALONE) for text in (ALONE, SPREAD, AHEAD) for line in text.splitlines()]
+        passed = sum(check(runs, line, is_threaded) for line, is_threaded in lines)
     print(f"{passed} passed, {len(lines) - passed} failed")
     return 0 if passed == len(lines) else 1
 
