@@ -9,9 +9,10 @@ use Rattle.pg_selection.specs.Search.{Search, SearchText}
 use Rattle.pg_files.specs.Given.{Given, names_in}
 use Rattle.pg_files.specs.Listed.{asked_for, file_paths, files_past, AreOpened, AreSpared, Sought, sought}
 use Rattle.pg_base.specs.Sink.{Stream}
-use Rattle.pg_run.specs.Outcome.{BreaksOff, RunFinishes}
-use Rattle.pg_run.specs.declared.fault.RunFault.{RunFault}
+use Rattle.pg_run.specs.Outcome.{RunFinishes}
 use Rattle.pg_run.specs.declared.setup.Setup.{Setup}
+use Rattle.pg_search.specs.Outcome.{SearchBreaksOff}
+use Rattle.pg_search.specs.declared.fault.SearchFault.{SearchFault}
 use Rattle.pg_command.specs.Answers.{HasReadFor, IsSetup, MayBeNames, Work}
 use Rattle.pg_request.specs.Asked.{Asked, input_name, scope_for, spares_output}
 
@@ -99,10 +100,10 @@ module _ {X : Type 0} (tells : X → Type 0) (answers : X → Tree) (tree : X) (
       subst F is f
 
   pub breaks_so : (text : SearchText) (setup : Setup) (done : Bool) (asked_so : List Found) (past : List Given)
-      (out out' told told' : Stream) (fault : RunFault)
-      → BreaksOff text setup (files_past s.input_name done asked_so past) out out' told told' fault
-      → BreaksOff text setup (files_past (input_name asked) done asked_so past) out out' told told' fault
+      (out out' told told' : Stream) (fault : SearchFault)
+      → SearchBreaksOff text setup (files_past s.input_name done asked_so past) out out' told told' fault
+      → SearchBreaksOff text setup (files_past (input_name asked) done asked_so past) out out' told told' fault
   breaks_so text setup done asked_so past out out' told told' fault b =
       let F : Sought X → Type 0 = λ q.
-      BreaksOff text setup (files_past q.input_name done asked_so past) out out' told told' fault in
+      SearchBreaksOff text setup (files_past q.input_name done asked_so past) out out' told told' fault in
       subst F is b

@@ -8,11 +8,12 @@ use Rattle.pg_walk.specs.Left.{BeginsWalk, IsWalk}
 use Rattle.pg_files.specs.Given.{FilesPast, Given, names_in}
 use Rattle.pg_files.specs.Listed.{file_paths, files_past, AreOpened, AreSpared}
 use Rattle.pg_base.specs.Sink.{Stream}
-use Rattle.pg_run.specs.Outcome.{IsSearchFor, RunFinishes, BreaksOff}
-use Rattle.pg_run.specs.declared.fault.RunFault.{RunFault}
+use Rattle.pg_run.specs.Outcome.{IsSearchFor, RunFinishes}
 use Rattle.pg_run.specs.declared.setup.Setup.{Setup}
+use Rattle.pg_search.specs.Outcome.{SearchBreaksOff}
+use Rattle.pg_search.specs.declared.fault.SearchFault.{SearchFault}
 use Rattle.pg_request.specs.Asked.{Asked, glob_files, has_names, input_name, scope_for, spares_output, text_of_query}
-use Rattle.pg_command.specs.Causes.{fault_of_run}
+use Rattle.pg_command.specs.Causes.{fault_of_search}
 use Rattle.pg_request.specs.Operands.{IsDirectory}
 use Rattle.pg_request.specs.Reading.{HasRead, FailsToReadAll}
 use Rattle.pg_command.specs.Told.{TellsOfSearch}
@@ -103,15 +104,15 @@ pub record FailsBeforeTheRun (asked : Asked) (past past' : List Given) (out out'
   pub memory : fault ≡ OutOfMemory
   pub unwritten : (out' ≡ out) × (err' ≡ err)
 
--- The run broke off.
-pub record FailsInTheRun (tells : Type 0) (tree : Tree) (asked : Asked) (past past' : List Given)
+-- The search broke off.
+pub record FailsInTheSearch (tells : Type 0) (tree : Tree) (asked : Asked) (past past' : List Given)
     (out out' err err' : Stream) (fault : Fault) : Type 0 where
   pub work : Work tells tree asked past past'
-  pub run : RunFault
-  pub is : fault ≡ fault_of_run run
+  pub cause : SearchFault
+  pub is : fault ≡ fault_of_search cause
   pub breaks :
-      BreaksOff (text_of_query asked work.contents) work.setup (given_for asked work.done work.items past')
-      out out' err err' run
+      SearchBreaksOff (text_of_query asked work.contents) work.setup (given_for asked work.done work.items past')
+      out out' err err' cause
 
 abbrev pub Fails : (tells : Type 0) → Tree → Asked → (past past' : List Given) → (out out' err err' : Stream) → Fault
     → Type 0
@@ -119,7 +120,7 @@ Fails tells tree asked past past' out out' err err' fault =
     FailsAtAPatternFile asked past past' out out' err err' fault
     ⊎ (FailsAtAGlobFile asked past past' out out' err err' fault
     ⊎ (FailsBeforeTheRun asked past past' out out' err err' fault
-    ⊎ FailsInTheRun tells tree asked past past' out out' err err' fault))
+    ⊎ FailsInTheSearch tells tree asked past past' out out' err err' fault))
 
 -- The status of a search that went through, or a fault was told behind the lines of files.
 abbrev pub AnswersSearch : {T : Type 0} → (tells : Type 0) → Tree → Asked → (past past' : List Given)

@@ -1,10 +1,12 @@
--- Faults of a run as those of the command.
+-- Faults of a search as those of the command.
 use Rattle.pg_lines.specs.declared.query.QueryFault.{QueryFault}
 use Rattle.pg_lines.specs.declared.query.QueryFault.TheVariants.{Syntax, TooLarge as QueryTooLarge}
 use Rattle.pg_lines.specs.declared.query.QueryFault.TheVariants.{OutOfMemory as NoMemoryForQuery}
 use Rattle.pg_run.specs.declared.fault.RunFault.{RunFault}
-use Rattle.pg_run.specs.declared.fault.RunFault.TheVariants.{Query, OutOfMemory as NoMemoryToRun, Sink}
+use Rattle.pg_run.specs.declared.fault.RunFault.TheVariants.{OutOfMemory as NoMemoryToRun, Sink}
 use Rattle.pg_run.specs.declared.fault.RunFault.TheVariants.{TooManyFiles as TooManyToRun, TooLong}
+use Rattle.pg_search.specs.declared.fault.SearchFault.{SearchFault}
+use Rattle.pg_search.specs.declared.fault.SearchFault.TheVariants.{Query, Run}
 use Rattle.pg_request.specs.declared.fault.Fault.{Fault}
 use Rattle.pg_request.specs.declared.fault.Fault.TheVariants.{Pattern, TooLarge, OutOfMemory, WriteFailed}
 use Rattle.pg_request.specs.declared.fault.Fault.TheVariants.{TooManyFiles, LineTooLong}
@@ -15,8 +17,11 @@ fault_of_query QueryTooLarge = TooLarge
 fault_of_query NoMemoryForQuery = OutOfMemory
 
 abbrev pub fault_of_run : RunFault → Fault
-fault_of_run (Query fault) = fault_of_query fault
 fault_of_run NoMemoryToRun = OutOfMemory
 fault_of_run Sink = WriteFailed
 fault_of_run TooManyToRun = TooManyFiles
 fault_of_run TooLong = LineTooLong
+
+abbrev pub fault_of_search : SearchFault → Fault
+fault_of_search (Query fault) = fault_of_query fault
+fault_of_search (Run fault) = fault_of_run fault

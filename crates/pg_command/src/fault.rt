@@ -3,7 +3,7 @@ ghost use Rattle.std.specs.Prelude.{◌≡◌, ◌++◌, ◌≤◌, codes};
 ghost use Rattle.std.specs.List.{flat_map};
 ghost use Rattle.pg_syntax.specs.Slices.{bytes_of};
 ghost use Rattle.pg_run.specs.Told.{fault_line as file_line};
-ghost use Rattle.pg_command.specs.Causes.{fault_of_query, fault_of_run};
+ghost use Rattle.pg_command.specs.Causes.{fault_of_query, fault_of_run, fault_of_search};
 ghost use Rattle.pg_command.specs.Shown.{shown_lines, shown_text};
 ghost use Rattle.pg_command.specs.Told.{IsOfNoFile, TellsFault, TellsOfSearch, TellsText, line_of, lines_of_pattern};
 ghost use Rattle.pg_command.specs.Told.{pattern_line, plain_line};
@@ -14,6 +14,7 @@ use pg_base::{Cause, Sink};
 use pg_lines::QueryFault;
 use pg_request::Fault;
 use pg_run::{RunFault, tell};
+use pg_search::SearchFault;
 use pg_syntax::{ListFault, SyntaxFault};
 use std::alloc::Global;
 
@@ -32,15 +33,24 @@ fn fault_of_query<'a>(fault: QueryFault) -> Fault<'a>
 }
 
 /// The fault of a run as one of the program.
-pub(crate) fn fault_of_run<'a>(fault: RunFault) -> Fault<'a>
+fn fault_of_run<'a>(fault: RunFault) -> Fault<'a>
     ensures { result ≡ fault_of_run fault }
 {
     match fault {
-        RunFault::Query(fault) => fault_of_query(fault),
         RunFault::OutOfMemory => Fault::OutOfMemory,
         RunFault::Sink => Fault::WriteFailed,
         RunFault::TooManyFiles => Fault::TooManyFiles,
         RunFault::TooLong => Fault::LineTooLong,
+    }
+}
+
+/// The fault of a search as one of the program.
+pub(crate) fn fault_of_search<'a>(fault: SearchFault) -> Fault<'a>
+    ensures { result ≡ fault_of_search fault }
+{
+    match fault {
+        SearchFault::Query(fault) => fault_of_query(fault),
+        SearchFault::Run(fault) => fault_of_run(fault),
     }
 }
 

@@ -7,14 +7,15 @@ ghost use Rattle.pg_request.specs.Asked.{asked_of, has_names, input_name, scope_
 ghost use Rattle.pg_command.specs.Answers.{AnswersSearch, Fails, IsSetup, Succeeds};
 ghost use Rattle.pg_request.specs.Reading.{contents_of};
 
-use crate::fault::{fault_of_run, tell_of_search};
+use crate::fault::{fault_of_search, tell_of_search};
 use pg_base::Sink;
 use pg_files::{Listed, STANDARD_INPUT, Store};
 use pg_request::{
     Fault, is_directory, operands_of, read_globs, read_patterns, read_scope, text_of,
 };
 use pg_rows::{Format, Mode};
-use pg_run::{FreeGate, Setup, has_room_for, run};
+use pg_run::{Setup, has_room_for};
+use pg_search::{FreeGate, run};
 use pg_walk::{Prefetch, start_helper};
 use pg_words::{Naming, Request};
 use std::alloc::{AllocError, Global};
@@ -112,7 +113,7 @@ fn search<
     let setup = list_files(rt, alloc, request, globs.as_slice(), tree, files)?;
     match run(rt, alloc, text, setup, files, out, err, &FreeGate) {
         Ok(status) => Ok(status),
-        Err(fault) => Err(fault_of_run(fault)),
+        Err(fault) => Err(fault_of_search(fault)),
     }
 }
 

@@ -41,7 +41,7 @@ fn search_beside<
     D: Reader<F>,
     F,
     C: Drop + Send,
-    Q: BlockSearch<Arc<Block<A>, A>, C, BlockResult<A>> + Sync,
+    Q: BlockSearch<Alloc = A, Scratch = C> + Sync,
 >(
     rt: &R,
     alloc: A,
@@ -101,7 +101,7 @@ pub fn search_round<
     D: Reader<F>,
     F,
     C: Drop + Send,
-    Q: BlockSearch<Arc<Block<A>, A>, C, BlockResult<A>> + Sync,
+    Q: BlockSearch<Alloc = A, Scratch = C> + Sync,
 >(
     rt: &R,
     alloc: A,

@@ -29,7 +29,7 @@ pub(crate) fn stream<
     D: Reader<F>,
     F,
     C: Drop + Send,
-    Q: BlockSearch<Arc<Block<A>, A>, C, BlockResult<A>> + Sync,
+    Q: BlockSearch<Alloc = A, Scratch = C> + Sync,
 >(
     rt: &R,
     alloc: A,

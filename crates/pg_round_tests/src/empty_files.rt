@@ -5,7 +5,7 @@ use crate::runs::{Watched, operand, run_over, setup, tree_of};
 use pg_base::MemSink;
 use pg_files::{Ending, Listed, MemStore, OpenFault, ReadFault, Store};
 use pg_rows::Mode;
-use pg_run::{FreeGate, Setup};
+use pg_search::{FreeGate, Setup};
 use pg_walk::{FileKind, MemTree, Node, Scope};
 use std::alloc::Global;
 use std::process::Abort;

@@ -8,7 +8,7 @@ use pg_base::Sink;
 use pg_blocks::Block;
 use pg_lines::{BlockResult, Kind, PatternList, Query, QueryText, Scratch};
 use pg_round::{Collector, Reader};
-use pg_run::Gate;
+use pg_search::Gate;
 use pg_seq::{Arrival, SinkFault};
 use std::alloc::{AllocError, Allocator};
 use std::sync::Arc;

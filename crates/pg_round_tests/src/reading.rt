@@ -5,7 +5,7 @@ use crate::fixtures::PATIENCE;
 use crate::runs::{Outcome, operand, run_over, setup, sink, tree_of};
 use pg_base::MemSink;
 use pg_files::{Ending, Listed, MemStore, OpenFault, ReadFault, Store};
-use pg_run::{Gate, RunFault, Setup};
+use pg_search::{Gate, RunFault, SearchFault, Setup};
 use pg_walk::{MemTree, Scope};
 use std::alloc::Global;
 use std::process::Abort;
@@ -121,7 +121,7 @@ struct Case {
     ending: Ending,
     may_wait: bool,
     patience: u32,
-    status: Result<u8, RunFault>,
+    status: Result<u8, SearchFault>,
     output: &'static [u8],
     told: &'static [u8],
     given_up: u64,
@@ -159,7 +159,7 @@ const CASES: [Case; 5] = [
         ending: Ending::Ends,
         may_wait: false,
         patience: PATIENCE,
-        status: Err(RunFault::TooLong),
+        status: Err(SearchFault::Run(RunFault::TooLong)),
         output: b"x1\nx2\n",
         told: b"",
         given_up: 0,

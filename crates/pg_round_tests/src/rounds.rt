@@ -8,7 +8,7 @@ use pg_base::MemSink;
 use pg_blocks::Block;
 use pg_lines::{Query, Scratch};
 use pg_round::{NothingToRead, Reader, RoundFault, search_round};
-use pg_run::{FreeGate, Gate, GatedQuery};
+use pg_search::{FreeGate, Gate, GatedQuery};
 use refusing::Refusing;
 use std::alloc::{AllocError, Allocator, Global};
 use std::sync::atomic::Ordering;

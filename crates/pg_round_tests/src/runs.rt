@@ -6,7 +6,7 @@ use crate::fixtures::{Counting, Meeting, PATIENCE, text};
 use pg_base::{MemSink, Sink, WriteError};
 use pg_files::{Ending, Files, Listed, MemFiles, MemStore};
 use pg_rows::{Format, Mode, Separator};
-use pg_run::{FreeGate, Gate, RunFault, Setup, run};
+use pg_search::{FreeGate, Gate, SearchFault, Setup, run};
 use pg_walk::{FileKind, MemTree, Node, Scope};
 use std::alloc::Global;
 use std::process::Abort;
@@ -79,7 +79,7 @@ pub(crate) fn sink(rt: &impl Abort, alloc: Global) -> MemSink {
 
 /// What a run answered and told.
 pub(crate) struct Outcome {
-    pub(crate) status: Result<u8, RunFault>,
+    pub(crate) status: Result<u8, SearchFault>,
     pub(crate) told: MemSink,
 }
 

@@ -27,7 +27,8 @@ use Rattle.pg_seq.proofs.CursorLemmas.{plan_begins}
 use Rattle.pg_seq.proofs.FrontLemmas.{front_all}
 use Rattle.pg_seq.proofs.KeyLemmas.{next_not_taken}
 use Rattle.pg_run.specs.Holding.{Aim, HasPlan, MayStep, BreaksOffInSearch, AllIsWritten, past_of, format_of, output_of}
-use Rattle.pg_run.specs.Holding.{waiting}
+use Rattle.pg_run.specs.Holding.{SearchesFor, waiting}
+use Rattle.pg_workers.specs.declared.block_search.BlockSearch.{Ghosts}
 use Rattle.pg_run.specs.declared.engine.Engine.{Engine}
 use Rattle.pg_run.specs.declared.fault.RunFault.TheVariants.{OutOfMemory, Sink}
 
@@ -68,7 +69,8 @@ all_push keys bs b e =
     ∙ ap (λ t. t && true) (own_key keys b))
 
 -- a new engine
-pub holds_new : {A : Type 0} (engine : Engine A) (aim : Aim) → engine.query.text ≡ aim.query.text
+pub holds_new : {A Q C : Type 0} {asks : Ghosts Q A C} (engine : Engine A Q C asks) (aim : Aim)
+    → SearchesFor engine aim.query
     → engine.setup ≡ aim.setup → engine.files ≡ 0 → waiting engine ≡ []
     → IsAfter engine.sequencer (start aim.query (format_of aim)) → HasPlan engine aim [] aim.out
 holds_new engine aim same set count none stands = record {
@@ -88,12 +90,14 @@ holds_new engine aim same set count none stands = record {
 }
 
 -- All blocks were taken where none waits.
-all_blocks : {A : Type 0} {engine : Engine A} {aim : Aim} {steps : List Step} {out : Stream}
+all_blocks : {A Q C : Type 0} {asks : Ghosts Q A C} {engine : Engine A Q C asks} {aim : Aim} {steps : List Step}
+    {out : Stream}
     (h : HasPlan engine aim steps out) → waiting engine ≡ [] → announced steps ≡ h.taken
 all_blocks h none = h.blocks ∙ (ap (λ bs. h.taken ++ bs) none ∙ append-nil h.taken)
 
 -- What an engine holds.
-module _ {A : Type 0} {engine : Engine A} {aim : Aim} {steps : List Step} {out : Stream}
+module _ {A Q C : Type 0} {asks : Ghosts Q A C} {engine : Engine A Q C asks} {aim : Aim} {steps : List Step}
+    {out : Stream}
     (h : HasPlan engine aim steps out) where
   abbrev past : Past
   past = past_of aim.query (format_of aim) h.events h.written
@@ -152,8 +156,7 @@ module _ {A : Type 0} {engine : Engine A} {aim : Aim} {steps : List Step} {out :
   broke_step s m = record { cause = tt; part = (h.written, safe_step s m, h.got); calm = h.calm }
 
   -- a step that gives no result
-  pub holds_step : (engine' : Engine A) (s : Step) → MayStep aim steps s → engine'.query.text
-      ≡ aim.query.text
+  pub holds_step : (engine' : Engine A Q C asks) (s : Step) → MayStep aim steps s → SearchesFor engine' aim.query
       → engine'.setup ≡ aim.setup → engine'.files ≡ opened (s ∷ steps)
       → announced (s ∷ steps) ≡ h.taken ++ waiting engine' → IsAfter engine'.sequencer (planned past s)
       → HasPlan engine' aim (s ∷ steps) out
@@ -174,8 +177,8 @@ module _ {A : Type 0} {engine : Engine A} {aim : Aim} {steps : List Step} {out :
   }
 
   -- the next block was announced, and waits
-  pub holds_waiting : (engine' : Engine A) (b : BlockData) → MayStep aim steps (Announces b)
-      → engine'.query.text ≡ aim.query.text → engine'.setup ≡ aim.setup → engine'.files ≡ opened steps
+  pub holds_waiting : (engine' : Engine A Q C asks) (b : BlockData) → MayStep aim steps (Announces b)
+      → SearchesFor engine' aim.query → engine'.setup ≡ aim.setup → engine'.files ≡ opened steps
       → waiting engine' ≡ waiting engine ++ b ∷ [] → IsAfter engine'.sequencer (planned past (Announces b))
       → HasPlan engine' aim (Announces b ∷ steps) out
   holds_waiting engine' b m same set count more stands =
@@ -202,8 +205,8 @@ module _ {A : Type 0} {engine : Engine A} {aim : Aim} {steps : List Step} {out :
       (first_is_taken next (record { query = aim.query.text; block = b }) (place, shaped) refl known new)
 
   -- the next block was announced, and its result kept
-  pub holds_block : (engine' : Engine A) (b : BlockData) (r : Searched) → MayStep aim steps (Announces b)
-      → engine'.query.text ≡ aim.query.text → engine'.setup ≡ aim.setup → engine'.files ≡ opened steps
+  pub holds_block : (engine' : Engine A Q C asks) (b : BlockData) (r : Searched) → MayStep aim steps (Announces b)
+      → SearchesFor engine' aim.query → engine'.setup ≡ aim.setup → engine'.files ≡ opened steps
       → waiting engine ≡ [] → waiting engine' ≡ [] → r ≡ record { query = aim.query.text; block = b }
       → IsAfter engine'.sequencer (arrived (planned past (Announces b)) r)
       → HasPlan engine' aim (Announces b ∷ steps) out
@@ -234,7 +237,8 @@ module _ {A : Type 0} {engine : Engine A} {aim : Aim} {steps : List Step} {out :
       }
 
 -- What drains write, and what is answered, where no block waits.
-module _ {A : Type 0} {engine : Engine A} {aim : Aim} {steps : List Step} {out : Stream}
+module _ {A Q C : Type 0} {asks : Ghosts Q A C} {engine : Engine A Q C asks} {aim : Aim} {steps : List Step}
+    {out : Stream}
     (h : HasPlan engine aim steps out) (none : waiting engine ≡ []) where
   abbrev calm_past : Past
   calm_past = past_of aim.query (format_of aim) h.events h.written
@@ -252,8 +256,8 @@ module _ {A : Type 0} {engine : Engine A} {aim : Aim} {steps : List Step} {out :
   handed_is = ap (λ (p : List Step). output aim.query (format_of aim) (entries_of p)) front_is
 
   -- a drain that writes all
-  pub holds_drained : (engine' : Engine A) (text : List ℕ) (out' : Stream)
-      → engine'.query.text ≡ aim.query.text → engine'.setup ≡ aim.setup → engine'.files ≡ opened steps
+  pub holds_drained : (engine' : Engine A Q C asks) (text : List ℕ) (out' : Stream)
+      → SearchesFor engine' aim.query → engine'.setup ≡ aim.setup → engine'.files ≡ opened steps
       → waiting engine' ≡ [] → out'.taken ≡ out.taken ++ text → out'.failures ≡ out.failures
       → Drained (Ok tt) calm_past text
       → IsAfter engine'.sequencer (drained calm_past text (Ok tt)) → HasPlan engine' aim steps out'

@@ -35,12 +35,13 @@ use Rattle.pg_run.specs.Holding.{format_of, output_of}
 use Rattle.pg_run.specs.Reading.{IsInsideFile, HasCut, IsLost, CutCause, MayEndFile, IsBetweenFiles, BreaksOffInFile}
 use Rattle.pg_run.specs.Reading.{IsCommonBeginning, ReadCause}
 use Rattle.pg_run.specs.Reading.{OnlyReadsOn, HasReadOn, ending_of, ending_after}
+use Rattle.pg_workers.specs.declared.block_search.BlockSearch.{Ghosts}
 use Rattle.pg_run.specs.declared.engine.Engine.{Engine}
 use Rattle.pg_run.specs.declared.reader.FileReader.{FileReader}
 use Rattle.pg_run.specs.declared.reader.ReadOutcome.{ReadOutcome}
 use Rattle.pg_run.specs.declared.reader.ReadOutcome.TheVariants.{More, End, Failure, Refused}
 use Rattle.pg_run.specs.declared.fault.RunFault.{RunFault}
-use Rattle.pg_run.specs.declared.fault.RunFault.TheVariants.{Query, OutOfMemory, Sink, TooManyFiles, TooLong}
+use Rattle.pg_run.specs.declared.fault.RunFault.TheVariants.{OutOfMemory, Sink, TooManyFiles, TooLong}
 use Rattle.pg_seq.proofs.LongerLemmas.{alike_more}
 use Rattle.pg_run.proofs.CoverLemmas.{follows_begins, covers_alike}
 use Rattle.pg_run.proofs.GivenLemmas.{files_more, files_end, newest_told, too_long_given, bytes_before, end_before}
@@ -64,7 +65,6 @@ safe_by aim steps given taken part f = λ files on.
 
 pub read_cause : (fault : RunFault) (aim : Aim) (given : List Given) (out : Stream) → SearchCause fault aim out
     → ReadCause fault aim given out
-read_cause (Query why) aim given out c = absurd c
 read_cause OutOfMemory aim given out c = tt
 read_cause Sink aim given out c = c
 read_cause TooManyFiles aim given out c = absurd c
@@ -73,7 +73,6 @@ read_cause TooLong aim given out c = absurd c
 -- no write failed
 pub none_failed : (fault : RunFault) (before after : Stream) → after.failures ≡ before.failures
     → NoneFailed fault before after
-none_failed (Query why) before after e = e
 none_failed OutOfMemory before after e = e
 none_failed Sink before after e = tt
 none_failed TooManyFiles before after e = e
@@ -81,7 +80,6 @@ none_failed TooLong before after e = e
 
 -- a search that breaks off is no file's fault
 pub none_at_fault : (fault : RunFault) (aim : Aim) (out : Stream) → SearchCause fault aim out → IsOfAFile fault → ⊥
-none_at_fault (Query why) aim out c f = c
 none_at_fault OutOfMemory aim out c f = f
 none_at_fault Sink aim out c f = f
 none_at_fault TooManyFiles aim out c f = c
@@ -298,7 +296,8 @@ module _ {A : Type 0} {reader : FileReader A} {aim : Aim} {given : List Given} {
   told_of_file = newest_told given h.name (joined h.fed.taken ++ h.rest) ending h.reads.before h.reads.given_is
 
 -- The same, and the engine has the blocks that were taken.
-module _ {A : Type 0} {reader : FileReader A} {engine : Engine A} {aim : Aim} {given : List Given} {out : Stream}
+module _ {A Q C : Type 0} {asks : Ghosts Q A C} {reader : FileReader A} {engine : Engine A Q C asks} {aim : Aim}
+    {given : List Given} {out : Stream}
     (h : IsInsideFile reader engine aim given out) where
   breaks_block : (b : BlockData) (more : List ℕ) (out' : Stream) (fault : RunFault) → Gives h.cuts.fed b more
       → Seam h.cuts b.bytes (behind h.cuts more) → BreaksOffInSearch aim (Announces b ∷ h.steps) out' fault
@@ -361,7 +360,7 @@ module _ {A : Type 0} {reader : FileReader A} {engine : Engine A} {aim : Aim} {g
   last_breaks b out' fault failed e all k =
       breaks_block b [] out' fault (gives_last h.cuts.fed b all) (last_seam b failed e) k
 
-  pub last_searched : (engine' : Engine A) (b : BlockData) (out' : Stream) (failed : Bool) → IsAtEnd failed
+  pub last_searched : (engine' : Engine A Q C asks) (b : BlockData) (out' : Stream) (failed : Bool) → IsAtEnd failed
       → AreAllBlocks (handed_out h.cuts.fed (Some b)) → HasPlan engine' aim (Announces b ∷ h.steps) out'
       → MayEndFile engine' aim failed given out'
   last_searched engine' b out' failed e all k =
@@ -612,7 +611,8 @@ module _ {A F L : Type 0} {past : F → FilesPast} {list : F → L} {reader read
   }
 
 -- it may be left
-pub may_leave : {A : Type 0} {reader : FileReader A} {engine : Engine A} {aim : Aim} {given : List Given} {out : Stream}
+pub may_leave : {A Q C : Type 0} {asks : Ghosts Q A C} {reader : FileReader A} {engine : Engine A Q C asks}
+    {aim : Aim} {given : List Given} {out : Stream}
     (h : IsInsideFile reader engine aim given out) → reader.came ≡ More
     → is_enough aim.query (format_of aim) (entries_of h.steps) ≡ true → MayEndFile engine aim false given out
 may_leave {aim = aim} {given = given} h more e = record {
@@ -626,23 +626,26 @@ may_leave {aim = aim} {given = given} h more e = record {
 }
 
 -- the file was read on
-pub read_on : {A F L : Type 0} {past : F → FilesPast} {list : F → L} {reader reader' : FileReader A}
+pub read_on : {A Q C F L : Type 0} {asks : Ghosts Q A C} {past : F → FilesPast} {list : F → L}
+    {reader reader' : FileReader A}
     {files files' : F}
-    {engine : Engine A} {aim : Aim} {out : Stream} → IsInsideFile reader engine aim (past files).given out
+    {engine : Engine A Q C asks} {aim : Aim} {out : Stream} → IsInsideFile reader engine aim (past files).given out
     → HasReadOn past list reader files reader' files' → IsInsideFile reader' engine aim (past files').given out
 read_on {aim = aim} h on = record { steps = h.steps; holds = h.holds; cuts = on.cuts aim h.steps h.cuts }
 
 -- memory went from the engine to the reader
-pub recycled : {A : Type 0} {reader : FileReader A} {engine : Engine A} {aim : Aim} {given : List Given} {out : Stream}
-    (h : IsInsideFile reader engine aim given out) (reader' : FileReader A) (engine' : Engine A)
+pub recycled : {A Q C : Type 0} {asks : Ghosts Q A C} {reader : FileReader A} {engine : Engine A Q C asks} {aim : Aim}
+    {given : List Given} {out : Stream}
+    (h : IsInsideFile reader engine aim given out) (reader' : FileReader A) (engine' : Engine A Q C asks)
     → reader'.cutter ≡ reader.cutter → reader'.came ≡ reader.came → HasPlan engine' aim h.steps out
     → IsInsideFile reader' engine' aim given out
 recycled h reader' engine' cutter came holds =
     record { steps = h.steps; holds = holds; cuts = recut h.cuts reader' cutter came }
 
 -- the blocks that wait were searched
-pub flushed : {A : Type 0} {reader : FileReader A} {engine : Engine A} {aim : Aim} {given : List Given} {out : Stream}
-    (h : IsInsideFile reader engine aim given out) (engine' : Engine A) (out' : Stream)
+pub flushed : {A Q C : Type 0} {asks : Ghosts Q A C} {reader : FileReader A} {engine : Engine A Q C asks} {aim : Aim}
+    {given : List Given} {out : Stream}
+    (h : IsInsideFile reader engine aim given out) (engine' : Engine A Q C asks) (out' : Stream)
     → HasPlan engine' aim h.steps out'
     → IsInsideFile reader engine' aim given out'
 flushed h engine' out' k = record { steps = h.steps; holds = k; cuts = h.cuts }
@@ -673,9 +676,10 @@ told_more {reader = reader} {reader' = reader'} {given = given} {given' = given'
     ∙ ap (λ f. faults_of given ++ line f) e)))
 
 -- The file may end, and does.
-module _ {A : Type 0} {engine : Engine A} {aim : Aim} {given : List Given} {out : Stream} (failed : Bool)
+module _ {A Q C : Type 0} {asks : Ghosts Q A C} {engine : Engine A Q C asks} {aim : Aim} {given : List Given}
+    {out : Stream} (failed : Bool)
     (h : MayEndFile engine aim failed given out) where
-  pub file_ended : (engine' : Engine A) (out' : Stream) → HasPlan engine' aim (Ends failed ∷ h.steps) out'
+  pub file_ended : (engine' : Engine A Q C asks) (out' : Stream) → HasPlan engine' aim (Ends failed ∷ h.steps) out'
       → IsBetweenFiles engine' aim given out'
   file_ended engine' out' k = record {
     steps = Ends failed ∷ h.steps;

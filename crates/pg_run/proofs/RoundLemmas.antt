@@ -27,10 +27,12 @@ use Rattle.pg_seq.proofs.BeginLemmas.{shape_of}
 use Rattle.pg_seq.proofs.StandLemmas.{all_push}
 use Rattle.pg_run.specs.Outcome.{NoneFailed}
 use Rattle.pg_run.specs.Holding.{Aim, HasPlan, AllIsWritten, BreaksOffInSearch, SearchCause, past_of, format_of}
-use Rattle.pg_run.specs.Holding.{output_of, waiting}
+use Rattle.pg_run.specs.Holding.{SearchesFor, output_of, waiting}
 use Rattle.pg_workers.specs.Results.{HasResult, HasAll}
-use Rattle.pg_run.specs.Searches.{HasShortLines, IsFoundIn}
+use Rattle.pg_workers.specs.Searches.{SearchView}
+use Rattle.pg_run.specs.Searches.{FindsLines}
 use Rattle.pg_round.specs.Receipts.{arrivals, IsSafe, HasRound, HasFailed, FailedBy, NoOtherFailed}
+use Rattle.pg_workers.specs.declared.block_search.BlockSearch.{Ghosts}
 use Rattle.pg_run.specs.declared.engine.Engine.{Engine}
 use Rattle.pg_run.specs.Faults.{fault_of_round}
 use Rattle.pg_round.specs.declared.fault.RoundFault.{RoundFault}
@@ -96,20 +98,6 @@ all_come past (r ∷ rs) b shaped known came =
 
 -- The blocks of a round.
 module _ {A : Type 0} where
-  came_of : (text : SearchText) (blocks : List (Arc BlockData A)) (n : ℕ) (block : Arc BlockData A)
-      → slice_get blocks n ≡ Some block → (rs : List Searched) → HasResult (IsFoundIn text) blocks n rs
-      → ReadOutcome text (arc_value block) rs
-  came_of text blocks n block at [] h = absurd h
-  came_of text blocks n block at (r ∷ rs) h = elim h [
-    | inl is ↦
-        let same : is.0 ≡ block = some_same (sym is.1 ∙ at) in
-        inl (is.2 ∙ ap (λ x. record { query = text; block = arc_value x }) same)
-    | inr later ↦ inr (came_of text blocks n block at rs later)
-  ]
-    where
-      some_same : {X : Type 0} {x y : X} → Some x ≡ Some y → x ≡ y
-      some_same e = cc
-
   contains_at : (blocks : List (Arc BlockData A)) (n : ℕ) (block : Arc BlockData A) → slice_get blocks n ≡ Some block
       → Contains (map arc_value blocks) (arc_value block)
   contains_at blocks n block at =
@@ -129,13 +117,29 @@ module _ {A : Type 0} where
       and_from (f (arc_value block)) (list_all f (map arc_value blocks)) (h 0 block refl)
       (all_at f blocks (λ n other at. h (suc n) other at))
 
+module _ {A C : Type 0} {view : SearchView (Arc BlockData A) C Searched} where
+  came_of : (text : SearchText) → FindsLines view text → (blocks : List (Arc BlockData A)) (n : ℕ)
+      (block : Arc BlockData A) → slice_get blocks n ≡ Some block → (rs : List Searched)
+      → HasResult view.finds blocks n rs → ReadOutcome text (arc_value block) rs
+  came_of text finds blocks n block at [] h = absurd h
+  came_of text finds blocks n block at (r ∷ rs) h = elim h [
+    | inl is ↦
+        let same : is.0 ≡ block = some_same (sym is.1 ∙ at) in
+        inl (finds.finds is.0 r is.2 ∙ ap (λ x. record { query = text; block = arc_value x }) same)
+    | inr later ↦ inr (came_of text finds blocks n block at rs later)
+  ]
+    where
+      some_same : {X : Type 0} {x y : X} → Some x ≡ Some y → x ≡ y
+      some_same e = cc
+
   -- after a round all blocks were taken
   pub all_taken_after : (past : Past) (blocks : List (Arc BlockData A)) (taken : List BlockData) (rs : List Searched)
-      → IsShaped (terminator past.query) (plan past) → announced (plan past) ≡ taken ++ map arc_value blocks
+      → FindsLines view past.query.text → IsShaped (terminator past.query) (plan past) → announced
+      (plan past) ≡ taken ++ map arc_value blocks
       → list_all (is_taken (taken_of past.query past.events)) taken ≡ true
-      → HasAll (IsFoundIn past.query.text) blocks rs
+      → HasAll view.finds blocks rs
       → list_all (is_taken (taken_of past.query (arrivals rs past.events))) (announced (plan past)) ≡ true
-  all_taken_after past blocks taken rs shaped split front all =
+  all_taken_after past blocks taken rs finds shaped split front all =
       let keys = taken_of past.query past.events in
       let later = is_taken (taken_of past.query (arrivals rs past.events)) in
       let known : (block : Arc BlockData A) → Contains (map arc_value blocks) (arc_value block)
@@ -147,7 +151,7 @@ module _ {A : Type 0} where
       ∙ and_from (list_all later taken) (list_all later (map arc_value blocks)) (all_stay taken front)
       (all_at later blocks (λ n block at. all_come past rs (arc_value block) shaped
       (known block (contains_at blocks n block at))
-      (came_of past.query.text blocks n block at rs (all n (slice_get_within blocks n block at))))))
+      (came_of past.query.text finds blocks n block at rs (all n (slice_get_within blocks n block at))))))
     where
       all_stay : (bs : List BlockData) → list_all (is_taken (taken_of past.query past.events)) bs ≡ true
           → list_all (is_taken (taken_of past.query (arrivals rs past.events))) bs ≡ true
@@ -160,11 +164,11 @@ module _ {A : Type 0} where
   -- Lines of the blocks of a plan are short.
   short_at : (end : ℕ) (text : SearchText) → terminator_of text ≡ end → (blocks : List (Arc BlockData A))
       → AllByRecursion (λ (b : BlockData). AreShort end b.bytes) (map arc_value blocks)
-      → AllByRecursion (HasShortLines text) blocks
-  short_at end text e [] h = tt
-  short_at end text e (block ∷ blocks) h =
+      → FindsLines view text → AllByRecursion view.may blocks
+  short_at end text e [] h finds = tt
+  short_at end text e (block ∷ blocks) h finds =
       let S : ℕ → Type 0 = λ x. AreShort x (arc_value block).bytes in
-      (subst S (sym e) h.0, short_at end text e blocks h.1)
+      (finds.may block (subst S (sym e) h.0), short_at end text e blocks h.1 finds)
 
 short_plan : (end : ℕ) (p : List Step) → IsPlan end p
     → AllByRecursion (λ (b : BlockData). AreShort end b.bytes) (announced p)
@@ -183,20 +187,24 @@ all_later : {X : Type 0} (P : X → Type 0) (xs ys : List X) → AllByRecursion 
 all_later P [] ys h = h
 all_later P (x ∷ xs) ys h = all_later P xs ys h.1
 
-module _ {A : Type 0} {engine : Engine A} {aim : Aim} {steps : List Step} {out : Stream}
+module _ {A Q C : Type 0} {asks : Ghosts Q A C} {engine : Engine A Q C asks} {aim : Aim} {steps : List Step}
+    {out : Stream}
     (h : HasPlan engine aim steps out) where
   abbrev past : Past
   past = past_of aim.query (format_of aim) h.events h.written
 
-  pub short_round : (text : SearchText) → text ≡ aim.query.text → All (HasShortLines text) engine.round.items
-  short_round text e =
+  abbrev view : SearchView (Arc BlockData A) C Searched
+  view = asks.seen engine.query.now
+
+  pub short_round : All view.may engine.round.items
+  short_round =
       let S : List BlockData → Type 0 =
       λ bs. AllByRecursion (λ (b : BlockData). AreShort (terminator aim.query) b.bytes) bs in
       let split : announced (plan past) ≡ h.taken ++ waiting engine = ap announced h.planned ∙ h.blocks in
       let all = subst S split (short_plan (terminator aim.query) (plan past) h.stands.lawful) in
-      all_from (HasShortLines text) engine.round.items
-      (short_at (terminator aim.query) text (ap terminator_of e) engine.round.items
-      (all_later (λ (b : BlockData). AreShort (terminator aim.query) b.bytes) h.taken (waiting engine) all))
+      all_from view.may engine.round.items
+      (short_at (terminator aim.query) aim.query.text refl engine.round.items
+      (all_later (λ (b : BlockData). AreShort (terminator aim.query) b.bytes) h.taken (waiting engine) all) h.same.0)
     where
       all_from : {X : Type 0} (P : X → Type 0) (xs : List X) → AllByRecursion P xs → (k : ℕ) (d : X) → k < length xs
           → P (slice_index_or xs k d)
@@ -215,10 +223,9 @@ module _ {A : Type 0} {engine : Engine A} {aim : Aim} {steps : List Step} {out :
       let P : List Step → Type 0 = λ p. IsBeginning (h.written ++ text) (output_of aim p) in
       subst P h.planned s
 
-  module _ (engine' : Engine A) (out' : Stream) (same : engine'.query.text ≡ aim.query.text)
+  module _ (engine' : Engine A Q C asks) (out' : Stream) (same : SearchesFor engine' aim.query)
       (set : engine'.setup ≡ aim.setup) (count : engine'.files ≡ opened steps) (none : waiting engine' ≡ [])
-      (text : SearchText) (own : text ≡ aim.query.text)
-      (round : HasRound (IsAfter engine'.sequencer) (IsFoundIn text) engine.round.items past out.taken out'.taken)
+      (round : HasRound (IsAfter engine'.sequencer) view.finds engine.round.items past out.taken out'.taken)
       (calm : out'.failures ≡ out.failures) where
     abbrev rs : List Searched
     rs = round.0
@@ -231,10 +238,9 @@ module _ {A : Type 0} {engine : Engine A} {aim : Aim} {steps : List Step} {out :
 
     holds_after : HasPlan engine' aim steps out'
     holds_after =
-        let T : SearchText → Type 0 = λ t. HasAll (IsFoundIn t) engine.round.items rs in
-        let all = all_taken_after past engine.round.items h.taken rs
+        let all = all_taken_after past engine.round.items h.taken rs h.same.0
         (shape_of (terminator aim.query) (plan past) h.stands.lawful) (ap announced h.planned ∙ h.blocks) h.all
-        (subst T own round.1) in
+        round.1 in
         let F : List Step → Type 0 =
         λ p. list_all (is_taken (taken_of aim.query (arrivals rs h.events))) (announced p) ≡ true in
         record {

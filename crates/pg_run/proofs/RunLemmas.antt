@@ -1,13 +1,11 @@
 -- Between files, and a whole run.
-use Rattle.std.proofs.Common.{Result, Ok, Err}
 use Rattle.std.proofs.Common.{◌≡◌, inl, inr, ℕ, ◌+◌, ◌-◌, ◌≤◌, ◌^◌, Bool, true, false, not, cond, List, [], ◌∷◌}
 use Rattle.std.proofs.Common.{◌++◌}
 use Rattle.std.proofs.Common.{drop, refl, sym, ap, ◌∙◌, subst, arith, append_assoc}
 use Rattle.std.specs.List.{list_any}
-use Rattle.std.specs.Result.{IfOk, IfErr}
 use Rattle.std.proofs.lemmas.Bool.{false≢true}
 use Rattle.std.proofs.lemmas.List.{append-nil}
-use Rattle.pg_selection.specs.Search.{Search, SearchText, Pattern, AreTreesOf, search_of, terminator}
+use Rattle.pg_selection.specs.Search.{Search, terminator}
 use Rattle.pg_blocks.specs.Cutter.{unfed, IsCutterAfter}
 use Rattle.pg_base.specs.declared.cause.Cause.{Cause}
 use Rattle.pg_base.specs.declared.cause.Cause.TheVariants.{ReadFailed}
@@ -25,23 +23,22 @@ use Rattle.pg_seq.specs.Plan.{Step, Opens, Announces, Ends, Misses, IsShaped, is
 use Rattle.pg_seq.proofs.BeginLemmas.{begins_trans}
 use Rattle.pg_files.specs.Given.{Given, NoFile, File, FilesPast, entries_given, newest_name, nothing_given}
 use Rattle.pg_run.specs.Told.{AddsFailure, faults_of, fault_of, fault_line, told_of}
-use Rattle.pg_run.specs.Outcome.{IsSearchFor, EndsAtSelected, RunFinishes, BreaksOff, HasCause, GotWholeLines}
-use Rattle.pg_run.specs.Outcome.{IsOfAFile}
+use Rattle.pg_run.specs.Outcome.{AreReadRightly, EndsAtSelected, RunFinishes, BreaksOff, HasCause, GotWholeLines}
 use Rattle.pg_run.specs.Holding.{Aim, HasPlan, BreaksOffInSearch, AllIsWritten, IsFinished, IsWrittenFirst}
 use Rattle.pg_run.specs.Holding.{format_of, output_of}
 use Rattle.pg_run.specs.Cover.{HasOpenFile}
 use Rattle.pg_run.specs.Reading.{IsInsideFile, IsLost, IsBetweenFiles, AllIsTold, BreaksOffInFile, IsCommonBeginning}
-use Rattle.pg_run.specs.Reading.{ReadCause, StopCause, BreaksOffTold, IsDone}
-use Rattle.pg_run.specs.Reading.{AreReadRightly, BreaksOffBehind, GaveFile, GaveOneAtMost}
+use Rattle.pg_run.specs.Reading.{ReadCause, BreaksOffTold, IsDone, BreaksOffBehind, GaveFile, GaveOneAtMost}
 use Rattle.pg_seq.specs.Settled.{AreLeftRightly}
 use Rattle.pg_run.specs.Reading.{ending_after}
+use Rattle.pg_workers.specs.declared.block_search.BlockSearch.{Ghosts}
 use Rattle.pg_run.specs.declared.engine.Engine.{Engine}
 use Rattle.pg_run.specs.declared.reader.FileReader.{FileReader}
 use Rattle.pg_run.specs.declared.reader.ReadOutcome.{ReadOutcome}
 use Rattle.pg_run.specs.declared.reader.ReadOutcome.TheVariants.{More}
 use Rattle.pg_run.specs.declared.setup.Setup.{Setup}
 use Rattle.pg_run.specs.declared.fault.RunFault.{RunFault}
-use Rattle.pg_run.specs.declared.fault.RunFault.TheVariants.{Query, OutOfMemory, Sink, TooManyFiles, TooLong}
+use Rattle.pg_run.specs.declared.fault.RunFault.TheVariants.{OutOfMemory, Sink, TooManyFiles, TooLong}
 use Rattle.pg_run.proofs.CoverLemmas.{follows_begins, covers_alike, covers_same, covers_left, later_begins}
 use Rattle.pg_run.proofs.StepLemmas.{opens, misses}
 use Rattle.pg_run.proofs.HoldLemmas.{room_of, shaped_of}
@@ -142,20 +139,11 @@ told_unfailed given before given' failed new e t =
 -- Why a run breaks off.
 
 stop_cause : (fault : RunFault) (aim : Aim) (given : List Given) (out told : Stream) → ReadCause fault aim given out
-    → StopCause fault aim given out told
-stop_cause (Query why) aim given out told c = absurd c
+    → HasCause fault aim.query aim.setup given aim.out out aim.told told
 stop_cause OutOfMemory aim given out told c = tt
 stop_cause Sink aim given out told c = inl c
 stop_cause TooManyFiles aim given out told c = c
 stop_cause TooLong aim given out told c = c
-
-pub has_cause : (fault : RunFault) (aim : Aim) (past : FilesPast) (out told : Stream)
-    → StopCause fault aim past.given out told → HasCause fault aim.query.text aim.setup past aim.out out aim.told told
-has_cause (Query why) aim past out told c = absurd c
-has_cause OutOfMemory aim past out told c = tt
-has_cause Sink aim past out told c = c
-has_cause TooManyFiles aim past out told c = c
-has_cause TooLong aim past out told c = c
 
 -- the reading of a file broke off
 pub stops_reading : (aim : Aim) (given given' : List Given) (out told : Stream) (fault : RunFault)
@@ -222,8 +210,8 @@ no_rows q format name earlier = ap (λ rows. rows_in format.mode rows [] []) (go
     go false = refl
 
 -- Between files.
-module _ {A : Type 0} {engine : Engine A} {aim : Aim} {given : List Given} {out : Stream}
-    (h : IsBetweenFiles engine aim given out) where
+module _ {A Q C : Type 0} {asks : Ghosts Q A C} {engine : Engine A Q C asks} {aim : Aim} {given : List Given}
+    {out : Stream} (h : IsBetweenFiles engine aim given out) where
   pub taken_part : TakesPart (output_of aim h.steps) aim.out.taken out.taken
   taken_part = (h.holds.written, h.holds.safe, h.holds.got)
 
@@ -248,7 +236,7 @@ module _ {A : Type 0} {engine : Engine A} {aim : Aim} {given : List Given} {out 
       (room_of h.holds) (inr (name, [], [], Left, opens q format name es (entries_given given) h.covers)) on))
 
   -- what was written was sent on
-  pub rows_sent : (engine' : Engine A) (out' : Stream) → HasPlan engine' aim h.steps out'
+  pub rows_sent : (engine' : Engine A Q C asks) (out' : Stream) → HasPlan engine' aim h.steps out'
       → IsBetweenFiles engine' aim given out'
   rows_sent engine' out' k =
       record { steps = h.steps; holds = k; closed = h.closed; number = h.number; covers = h.covers }
@@ -276,7 +264,7 @@ module _ {A : Type 0} {engine : Engine A} {aim : Aim} {given : List Given} {out 
   }
 
   -- a name is missed
-  pub name_missed : (engine' : Engine A) (name : List ℕ) (cause : Cause)
+  pub name_missed : (engine' : Engine A Q C asks) (name : List ℕ) (cause : Cause)
       → HasPlan engine' aim (Misses name ∷ h.steps) out
       → IsBetweenFiles engine' aim (NoFile name cause ∷ given) out
   name_missed engine' name cause k = record {
@@ -288,7 +276,7 @@ module _ {A : Type 0} {engine : Engine A} {aim : Aim} {given : List Given} {out 
   }
 
   -- a file is opened, and the reader begins with a cutter that was made for it
-  pub file_opened : (reader : FileReader A) (engine' : Engine A) (name : List ℕ) → reader.came ≡ More
+  pub file_opened : (reader : FileReader A) (engine' : Engine A Q C asks) (name : List ℕ) → reader.came ≡ More
       → IsCutterAfter reader.cutter (unfed (terminator aim.query) engine.files aim.setup.block aim.setup.line)
       → HasPlan engine' aim (Opens name ∷ h.steps) out → IsInsideFile reader engine' aim (File name [] Left ∷ given) out
   file_opened reader engine' name more cut k =
@@ -390,7 +378,8 @@ module _ {A : Type 0} {engine : Engine A} {aim : Aim} {given : List Given} {out 
       ∙ n)
 
 -- a file was opened, by the name that is told of what was given
-pub file_started : {A : Type 0} {reader : FileReader A} {engine : Engine A} {aim : Aim} {given : List Given}
+pub file_started : {A Q C : Type 0} {asks : Ghosts Q A C} {reader : FileReader A} {engine : Engine A Q C asks}
+    {aim : Aim} {given : List Given}
     {out : Stream} (now : List Given) (name' : List ℕ) → GaveFile given now → name' ≡ newest_name now
     → IsInsideFile reader engine aim (File name' [] Left ∷ given) out → IsInsideFile reader engine aim now out
 file_started {reader = reader} {engine = engine} {aim = aim} {given = given} {out = out} now name' new named h =
@@ -407,7 +396,8 @@ ends_at aim (g ∷ given) before e h = ap (λ gs. list_any (has_selected aim.que
 
 -- A whole run.
 
-pub between_new : {A : Type 0} (engine : Engine A) (aim : Aim) → HasPlan engine aim [] aim.out
+pub between_new : {A Q C : Type 0} {asks : Ghosts Q A C} (engine : Engine A Q C asks) (aim : Aim)
+    → HasPlan engine aim [] aim.out
     → IsBetweenFiles engine aim [] aim.out
 between_new engine aim h = record { steps = []; holds = h; closed = refl; number = refl; covers = tt }
 
@@ -442,15 +432,16 @@ rightly_left aim given left =
     subst P (entries_before given) (left_before aim.query (format_of aim) (entries_given given) left)
 
 -- files that were all read as far as was needed, and perhaps one more
-pub read_rightly : {A : Type 0} {engine : Engine A} {aim : Aim} {given : List Given} {out : Stream}
+pub read_rightly : {A Q C : Type 0} {asks : Ghosts Q A C} {engine : Engine A Q C asks} {aim : Aim}
+    {given : List Given} {out : Stream}
     → (b : IsBetweenFiles engine aim given out)
     → (is_quiet (format_of aim).mode ≡ true → EndsAtSelected aim.query (entries_given given))
     → (is_quiet (format_of aim).mode ≡ true → list_any (has_selected aim.query) (entries_given given) ≡ false)
-    → (given' : List Given) → GaveOneAtMost given given' → AreReadRightly aim given'
+    → (given' : List Given) → GaveOneAtMost given given' → AreReadRightly aim.query aim.setup given'
 read_rightly {aim = aim} {given = given} b quiet none given' (inl e) =
     let left = covers_left aim.query (format_of aim) (entries_of b.steps) (entries_given given) (room_of b.holds)
     b.covers in
-    subst (AreReadRightly aim) (sym e) (record { left = rightly_left aim given left; quiet = quiet })
+    subst (AreReadRightly aim.query aim.setup) (sym e) (record { left = rightly_left aim given left; quiet = quiet })
 read_rightly {aim = aim} {given = given} b quiet none given' (inr e) =
     let P : List Given → Type 0 = λ gs. AreLeftRightly aim.query (format_of aim) (entries_given gs) in
     record {
@@ -460,7 +451,8 @@ read_rightly {aim = aim} {given = given} b quiet none given' (inr e) =
       quiet = λ q. ends_at aim given' given e (none q);
     }
 
-module _ {A : Type 0} {engine : Engine A} {aim : Aim} {finds : List (List ℕ) → Type 0} {past : FilesPast}
+module _ {A Q C : Type 0} {asks : Ghosts Q A C} {engine : Engine A Q C asks} {aim : Aim}
+    {finds : List (List ℕ) → Type 0} {past : FilesPast}
     {out told : Stream} (d : IsDone engine aim finds past out told) where
   pub done_finishes : (out' : Stream) (answer : ℕ) → IsFinished aim d.rests.0.steps out' answer
       → RunFinishes aim.query aim.setup finds past aim.out out' aim.told told answer
@@ -496,73 +488,23 @@ module _ {A : Type 0} {engine : Engine A} {aim : Aim} {finds : List (List ℕ) �
         record { left = rightly_left aim past.given left; quiet = d.quiet },
       )
 
--- what a run is for, where the patterns have these trees
-abbrev pub aim_for : SearchText → List Pattern → Setup → (out told : Stream) → Aim
-aim_for text trees setup out told = record { query = search_of text trees; setup = setup; out = out; told = told }
+-- what a run is for
+abbrev pub aim_for : Search → Setup → (out told : Stream) → Aim
+aim_for q setup out told = record { query = q; setup = setup; out = out; told = told }
 
-pub breaks_off : (text : SearchText) (setup : Setup) (past : FilesPast) (out out' told told' : Stream)
-    (fault : RunFault)
-    → (trees : List Pattern) × AreTreesOf text trees
-    → ((trees : List Pattern) → AreTreesOf text trees
-    → BreaksOffBehind (aim_for text trees setup out told) past.given out' told' fault)
-    → BreaksOff text setup past out out' told told' fault
-breaks_off text setup past out out' told told' fault own stops =
-    let s = (stops own.0 own.1).0 in
-    record {
-      cause = has_cause fault (aim_for text own.0 setup out told) past out' told' s.cause;
-      written = λ trees spelled. (stops trees spelled).0.written;
-      lines = λ of trees spelled. (stops trees spelled).0.lines of;
-      faults = s.faults;
-      left = λ trees spelled. (stops trees spelled).1.left;
-      quiet = λ trees spelled. (stops trees spelled).1.quiet;
-      spelled = inl own;
-      calm = s.calm;
-    }
-
-none_taken : (text before : List ℕ) → TakesPart text before before
-none_taken text before = ([], (text, refl), sym (append-nil before))
-
-no_file_yet : (fault : RunFault) (text : SearchText) (setup : Setup) (out told : Stream)
-    → HasCause fault text setup nothing_given out out told told → IsOfAFile fault → ⊥
-no_file_yet (Query why) text setup out told c f = f
-no_file_yet OutOfMemory text setup out told c f = f
-no_file_yet Sink text setup out told c f = f
-no_file_yet TooManyFiles text setup out told c f = omega (arith, c)
-no_file_yet TooLong text setup out told c f = c
-
--- nothing was asked for or written
-pub breaks_first : (text : SearchText) (setup : Setup) (past : FilesPast) (out told : Stream) (fault : RunFault)
-    → past ≡ nothing_given → HasCause fault text setup nothing_given out out told told
-    → BreaksOff text setup past out out told told fault
-breaks_first text setup past out told fault new cause =
-    let P : FilesPast → Type 0 = λ p. HasCause fault text setup p out out told told in
-    record {
-      cause = subst P (sym new) cause;
-      written = λ trees spelled files on.
-          none_taken (output (search_of text trees) setup.format files) out.taken;
-      lines = λ of. absurd (no_file_yet fault text setup out told cause of);
-      faults = none_taken (told_of setup.silent past.given) told.taken;
-      left = λ trees spelled. subst (λ (p : FilesPast).
-          AreLeftRightly (search_of text trees) setup.format (entries_given (drop 1 p.given))) (sym new) tt;
-      quiet = λ trees spelled _. subst (λ (p : FilesPast).
-          EndsAtSelected (search_of text trees) (entries_given p.given)) (sym new) tt;
-      spelled = inr (new, refl, refl);
-      calm = (none_failed fault out out refl, none_failed fault told told refl);
-    }
-
--- a run is for the search that its text and trees make
-pub finishes_for : (r : Result ℕ RunFault) (text : SearchText) (setup : Setup) (finds : List (List ℕ) → Type 0)
-    (past : FilesPast) (out out' told told' : Stream) (own : (trees : List Pattern) × AreTreesOf text trees)
-    → IfOk r (RunFinishes (search_of text own.0) setup finds past out out' told told')
-    → IfOk r (λ answer. (q : Search) × IsSearchFor text q × RunFinishes q setup finds past out out' told told' answer)
-finishes_for (Ok answer) text setup finds past out out' told told' own f = (search_of text own.0, (refl, own.1), f)
-finishes_for (Err fault) text setup finds past out out' told told' own f = tt
-
-pub breaks_for : (r : Result ℕ RunFault) (text : SearchText) (setup : Setup) (past : FilesPast)
-    (out out' told told' : Stream) (own : (trees : List Pattern) × AreTreesOf text trees)
-    → ((trees : List Pattern) → AreTreesOf text trees
-    → IfErr r (BreaksOffBehind (aim_for text trees setup out told) past.given out' told'))
-    → IfErr r (BreaksOff text setup past out out' told told')
-breaks_for (Ok answer) text setup past out out' told told' own stops = tt
-breaks_for (Err fault) text setup past out out' told told' own stops =
-    breaks_off text setup past out out' told told' fault own stops
+-- memory was lacking before anything was asked for or written
+pub breaks_first : (q : Search) (setup : Setup) (past : FilesPast) (out told : Stream) → past ≡ nothing_given
+    → BreaksOff q setup past.given out out told told OutOfMemory
+breaks_first q setup past out told new = (
+  record {
+    cause = tt;
+    written = λ files on. none_taken (output q setup.format files) out.taken;
+    lines = λ of. absurd of;
+    faults = none_taken (told_of setup.silent past.given) told.taken;
+    calm = (refl, refl);
+  },
+  subst (λ (p : FilesPast). AreReadRightly q setup p.given) (sym new) (record { left = tt; quiet = λ _. tt }),
+)
+  where
+    none_taken : (text before : List ℕ) → TakesPart text before before
+    none_taken text before = ([], (text, refl), sym (append-nil before))

@@ -1,10 +1,8 @@
 -- Faults of the parts as faults of a run.
 use Rattle.pg_blocks.specs.declared.cutter.CutFault.{CutFault}
 use Rattle.pg_blocks.specs.declared.cutter.CutFault.TheVariants.{OutOfMemory as NoMemoryToCut, LineTooLong, FileTooLong}
-use Rattle.pg_lines.specs.declared.query.QueryFault.{QueryFault}
-use Rattle.pg_lines.specs.declared.query.QueryFault.TheVariants.{Syntax, TooLarge, OutOfMemory as NoMemoryForQuery}
 use Rattle.pg_run.specs.declared.fault.RunFault.{RunFault}
-use Rattle.pg_run.specs.declared.fault.RunFault.TheVariants.{Query, OutOfMemory, Sink, TooLong}
+use Rattle.pg_run.specs.declared.fault.RunFault.TheVariants.{OutOfMemory, Sink, TooLong}
 use Rattle.pg_round.specs.declared.fault.RoundFault.{RoundFault}
 use Rattle.pg_round.specs.declared.fault.RoundFault.TheVariants.{OutOfMemory as NoMemoryForRound, Sink as RoundSink}
 
@@ -16,8 +14,3 @@ abbrev pub fault_of_cut : CutFault → RunFault
 fault_of_cut NoMemoryToCut = OutOfMemory
 fault_of_cut LineTooLong = TooLong
 fault_of_cut FileTooLong = TooLong
-
-abbrev pub fault_of_query : QueryFault → RunFault
-fault_of_query (Syntax fault) = Query (Syntax fault)
-fault_of_query TooLarge = Query TooLarge
-fault_of_query NoMemoryForQuery = OutOfMemory

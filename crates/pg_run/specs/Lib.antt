@@ -5,6 +5,5 @@ pub mod Holding
 pub mod Lengths
 pub mod Outcome
 pub mod Reading
-pub mod Scratches
 pub mod Searches
 pub mod Told

@@ -1,23 +1,20 @@
 -- What a run did, by what its files gave.
 use Rattle.std.specs.Prelude.{◌≡◌, ◌⊎◌, ℕ, ◌<◌, ◌-◌, ◌^◌, true, false, List, [], ◌∷◌, ◌++◌, drop}
 use Rattle.std.specs.List.{list_any}
-use Rattle.pg_selection.specs.Search.{Search, SearchText, Pattern, AreTreesOf, HasItsTrees}
-use Rattle.pg_selection.specs.Search.{search_of, terminator, terminator_of}
+use Rattle.pg_selection.specs.Search.{Search, SearchText, HasItsTrees, terminator}
 use Rattle.pg_blocks.specs.Lines.{AreWhole}
-use Rattle.pg_lines.specs.Queries.{IsQueryFault}
-use Rattle.pg_lines.specs.declared.query.QueryFault.TheVariants.{OutOfMemory as NoMemoryForQuery}
 use Rattle.pg_rows.specs.declared.format.Format.{Format}
 use Rattle.pg_rows.specs.Modes.{is_quiet}
 use Rattle.pg_base.specs.Entries.{Entry, Missed, Read, Ending, Running, Ended, Failed, Left, is_running}
 use Rattle.pg_rows.specs.Output.{has_selected, output, status}
 use Rattle.pg_base.specs.Sink.{Stream, TakesPart}
 use Rattle.pg_seq.specs.Settled.{AreLeftRightly}
-use Rattle.pg_files.specs.Given.{AllGiven, FilesPast, nothing_given, entries_given, files_given}
+use Rattle.pg_files.specs.Given.{AllGiven, FilesPast, Given, entries_given, files_given}
 use Rattle.pg_run.specs.Lengths.{IsTooLong}
 use Rattle.pg_run.specs.Told.{told_of}
 use Rattle.pg_run.specs.declared.setup.Setup.{Setup}
 use Rattle.pg_run.specs.declared.fault.RunFault.{RunFault}
-use Rattle.pg_run.specs.declared.fault.RunFault.TheVariants.{Query, OutOfMemory, Sink, TooManyFiles, TooLong}
+use Rattle.pg_run.specs.declared.fault.RunFault.TheVariants.{OutOfMemory, Sink, TooManyFiles, TooLong}
 
 -- the search for a text, whose patterns spell its trees
 abbrev pub IsSearchFor : SearchText → Search → Type 0
@@ -63,14 +60,11 @@ IsContinuation (last ∷ entries) files =
     (later : List Entry) × (other : Entry) × MayBecome last other × (files ≡ later ++ other ∷ entries)
 
 -- what happened, by the fault that says it
-abbrev pub HasCause : RunFault → SearchText → Setup → FilesPast → (out out' told told' : Stream) → Type 0
-HasCause (Query why) text setup past out out' told told' =
-    IsQueryFault text why × ¬ (why ≡ NoMemoryForQuery) × (past ≡ nothing_given) × (out' ≡ out) × (told' ≡ told)
-HasCause OutOfMemory text setup past out out' told told' = Unit {0}
-HasCause Sink text setup past out out' told told' =
-    (out.failures < out'.failures) ⊎ (told.failures < told'.failures)
-HasCause TooManyFiles text setup past out out' told told' = 2 ^ 32 - 1 < files_given past.given
-HasCause TooLong text setup past out out' told told' = IsTooLong (terminator_of text) setup.line past.given
+abbrev pub HasCause : RunFault → Search → Setup → List Given → (out out' told told' : Stream) → Type 0
+HasCause OutOfMemory q setup given out out' told told' = Unit {0}
+HasCause Sink q setup given out out' told told' = (out.failures < out'.failures) ⊎ (told.failures < told'.failures)
+HasCause TooManyFiles q setup given out out' told told' = 2 ^ 32 - 1 < files_given given
+HasCause TooLong q setup given out out' told told' = IsTooLong (terminator q) setup.line given
 
 -- The output is that of what was given before the newest file, and of some whole lines at its front.
 pub record GotWholeLines (q : Search) (format : Format) (given : List Entry) (out out' : Stream) : Type 0 where
@@ -85,7 +79,6 @@ pub record GotWholeLines (q : Search) (format : Format) (given : List Entry) (ou
 
 -- a file is at fault: it can't be read on, or not be begun
 abbrev pub IsOfAFile : RunFault → Type 0
-IsOfAFile (Query why) = ⊥
 IsOfAFile OutOfMemory = ⊥
 IsOfAFile Sink = ⊥
 IsOfAFile TooManyFiles = Unit {0}
@@ -94,33 +87,29 @@ IsOfAFile TooLong = Unit {0}
 -- no write failed, unless that is the fault
 abbrev pub NoneFailed : RunFault → Stream → Stream → Type 0
 NoneFailed Sink before after = Unit {0}
-NoneFailed (Query why) before after = after.failures ≡ before.failures
 NoneFailed OutOfMemory before after = after.failures ≡ before.failures
 NoneFailed TooManyFiles before after = after.failures ≡ before.failures
 NoneFailed TooLong before after = after.failures ≡ before.failures
 
--- what was given before the newest
-abbrev pub earlier_given : FilesPast → List Entry
-earlier_given past = entries_given (drop 1 past.given)
-
--- A run broke off by a fault that has its cause: its output is a beginning of that of every list of files that goes on
--- from what was given, and the fault lines are a beginning of those of what was given. Where a file is at fault,
--- nothing is lost of those before it. Each file before the newest was read to its end, but where lines at its front
--- were enough, and with -q no line of these was selected. Nothing was asked for or written where the patterns spell no
--- trees.
-pub record BreaksOff (text : SearchText) (setup : Setup) (past : FilesPast) (out out' told told' : Stream)
+-- A run stopped by a fault that has its cause: its output is a beginning of that of every list of files that goes on from
+-- what was given, and the fault lines are a beginning of those of what was given. Where a file is at fault, nothing is
+-- lost of those before it.
+pub record HasStopped (q : Search) (setup : Setup) (given : List Given) (out out' told told' : Stream)
     (fault : RunFault) : Type 0 where
-  pub cause : HasCause fault text setup past out out' told told'
-  pub written : (trees : List Pattern) → AreTreesOf text trees → (files : List Entry) →
-      IsContinuation (entries_given past.given) files →
-      TakesPart (output (search_of text trees) setup.format files) out.taken out'.taken
-  pub lines : IsOfAFile fault → (trees : List Pattern) → AreTreesOf text trees →
-      GotWholeLines (search_of text trees) setup.format (entries_given past.given) out out'
-  pub faults : TakesPart (told_of setup.silent past.given) told.taken told'.taken
-  pub left : (trees : List Pattern) → AreTreesOf text trees →
-      AreLeftRightly (search_of text trees) setup.format (earlier_given past)
-  pub quiet : (trees : List Pattern) → AreTreesOf text trees → is_quiet setup.format.mode ≡ true →
-      EndsAtSelected (search_of text trees) (entries_given past.given)
-  pub spelled : ((trees : List Pattern) × AreTreesOf text trees)
-      ⊎ ((past ≡ nothing_given) × (out' ≡ out) × (told' ≡ told))
+  pub cause : HasCause fault q setup given out out' told told'
+  pub written : (files : List Entry) → IsContinuation (entries_given given) files →
+      TakesPart (output q setup.format files) out.taken out'.taken
+  pub lines : IsOfAFile fault → GotWholeLines q setup.format (entries_given given) out out'
+  pub faults : TakesPart (told_of setup.silent given) told.taken told'.taken
   pub calm : NoneFailed fault out out' × NoneFailed fault told told'
+
+-- Each file before the newest was read to its end, but where lines at its front were enough, and with -q no line of
+-- these was selected.
+pub record AreReadRightly (q : Search) (setup : Setup) (given : List Given) : Type 0 where
+  pub left : AreLeftRightly q setup.format (entries_given (drop 1 given))
+  pub quiet : is_quiet setup.format.mode ≡ true → EndsAtSelected q (entries_given given)
+
+-- it stopped, behind files that were read as far as was needed
+abbrev pub BreaksOff : Search → Setup → List Given → (out out' told told' : Stream) → RunFault → Type 0
+BreaksOff q setup given out out' told told' fault =
+    HasStopped q setup given out out' told told' fault × AreReadRightly q setup given

@@ -15,13 +15,13 @@ use Rattle.pg_seq.specs.Plan.{Step, Ends, is_open, opened, last_blocks, entries_
 use Rattle.pg_files.specs.Given.{Given, File, FilesPast, AllGiven, entries_given, files_given}
 use Rattle.pg_run.specs.Lengths.{IsTooLong}
 use Rattle.pg_run.specs.Told.{told_of}
-use Rattle.pg_run.specs.Outcome.{IsContinuation, EndsAtSelected, AsksToTheEnd, GotWholeLines, IsOfAFile, NoneFailed}
-use Rattle.pg_seq.specs.Settled.{AreLeftRightly}
+use Rattle.pg_run.specs.Outcome.{IsContinuation, EndsAtSelected, AsksToTheEnd, GotWholeLines, IsOfAFile, NoneFailed, BreaksOff, HasStopped}
 use Rattle.pg_run.specs.Cover.{Covers, HasOpenFile}
 use Rattle.pg_run.specs.Holding.{Aim, HasPlan, HasRoomInRound, format_of}
+use Rattle.pg_workers.specs.declared.block_search.BlockSearch.{Ghosts}
 use Rattle.pg_run.specs.declared.engine.Engine.{Engine}
 use Rattle.pg_run.specs.declared.fault.RunFault.{RunFault}
-use Rattle.pg_run.specs.declared.fault.RunFault.TheVariants.{Query, OutOfMemory, Sink, TooManyFiles, TooLong}
+use Rattle.pg_run.specs.declared.fault.RunFault.TheVariants.{OutOfMemory, Sink, TooManyFiles, TooLong}
 use Rattle.pg_run.specs.declared.reader.FileReader.{FileReader}
 use Rattle.pg_run.specs.declared.reader.ReadOutcome.{ReadOutcome}
 use Rattle.pg_run.specs.declared.reader.ReadOutcome.TheVariants.{More, End, Failure, Refused}
@@ -83,32 +83,33 @@ pub record MayBeRead {A : Type 0} (reader : FileReader A) (given : List Given) :
 abbrev pub AwaitsMore : {A : Type 0} → FileReader A → Type 0
 AwaitsMore reader = (reader.came ≡ More) × IsDrained reader.cutter
 
--- all blocks that are cut were taken, and there is room for the last one
-abbrev pub AwaitsLast : {A : Type 0} → FileReader A → Engine A → Type 0
-AwaitsLast reader engine = IsDrained reader.cutter × HasRoomInRound engine
+module _ {A Q C : Type 0} {asks : Ghosts Q A C} where
+  -- all blocks that are cut were taken, and there is room for the last one
+  abbrev pub AwaitsLast : FileReader A → Engine A Q C asks → Type 0
+  AwaitsLast reader engine = IsDrained reader.cutter × HasRoomInRound engine
 
--- A file is open, and the engine has the blocks that were taken of it.
-pub record IsInsideFile {A : Type 0} (reader : FileReader A) (engine : Engine A) (aim : Aim) (given : List Given)
-    (out : Stream) : Type 0 where
-  pub steps : List Step
-  pub holds : HasPlan engine aim steps out
-  pub cuts : HasCut reader aim given steps
+  -- A file is open, and the engine has the blocks that were taken of it.
+  pub record IsInsideFile (reader : FileReader A) (engine : Engine A Q C asks) (aim : Aim) (given : List Given)
+      (out : Stream) : Type 0 where
+    pub steps : List Step
+    pub holds : HasPlan engine aim steps out
+    pub cuts : HasCut reader aim given steps
 
--- for some run it is so
-abbrev pub IsInSomeFile : {A : Type 0} → FileReader A → Engine A → List Given → Stream → Type 0
-IsInSomeFile reader engine given out = (aim : Aim) × IsInsideFile reader engine aim given out
+  -- for some run it is so
+  abbrev pub IsInSomeFile : FileReader A → Engine A Q C asks → List Given → Stream → Type 0
+  IsInSomeFile reader engine given out = (aim : Aim) × IsInsideFile reader engine aim given out
 
--- for some run and whatever was given it is so, and all blocks that are cut were taken
-abbrev pub IsReadingSomeFile : {A : Type 0} → FileReader A → Engine A → Stream → Type 0
-IsReadingSomeFile reader engine out =
-    (aim : Aim) × (given : List Given) × IsDrained reader.cutter × IsInsideFile reader engine aim given out
+  -- for some run and whatever was given it is so, and all blocks that are cut were taken
+  abbrev pub IsReadingSomeFile : FileReader A → Engine A Q C asks → Stream → Type 0
+  IsReadingSomeFile reader engine out =
+      (aim : Aim) × (given : List Given) × IsDrained reader.cutter × IsInsideFile reader engine aim given out
 
--- and the file can't go on, for its end or a failure, with room for its last block
-pub record IsAtLastBlock {A : Type 0} (reader : FileReader A) (engine : Engine A) (failed : Bool) (out : Stream)
-    : Type 0 where
-  pub ended : ending_after reader.came ≡ ending_of failed
-  pub room : HasRoomInRound engine
-  pub in_file : IsReadingSomeFile reader engine out
+  -- and the file can't go on, for its end or a failure, with room for its last block
+  pub record IsAtLastBlock (reader : FileReader A) (engine : Engine A Q C asks) (failed : Bool) (out : Stream)
+      : Type 0 where
+    pub ended : ending_after reader.came ≡ ending_of failed
+    pub room : HasRoomInRound engine
+    pub in_file : IsReadingSomeFile reader engine out
 
 -- At most the newest file was read further. What was given before, and what is listed, stands.
 pub record OnlyReadsOn {F L : Type 0} (past : F → FilesPast) (list : F → L) (files files' : F) : Type 0 where
@@ -123,36 +124,38 @@ pub record HasReadOn {A F L : Type 0} (past : F → FilesPast) (list : F → L) 
   pub cuts : (aim : Aim) (steps : List Step) → HasCut reader aim (past files).given steps
       → HasCut reader' aim (past files').given steps
 
--- A file is open, and once it has ended so the plan has all that is needed of what was given.
-pub record MayEndFile {A : Type 0} (engine : Engine A) (aim : Aim) (failed : Bool) (given : List Given) (out : Stream)
-    : Type 0 where
-  pub steps : List Step
-  pub holds : HasPlan engine aim steps out
-  pub running : is_open steps ≡ true
-  pub number : opened steps ≡ files_given given
-  pub covers : Covers aim.query (format_of aim) (entries_of (Ends failed ∷ steps)) (entries_given given)
-
--- No file is open, and the plan has all that is needed of what was given.
-pub record IsBetweenFiles {A : Type 0} (engine : Engine A) (aim : Aim) (given : List Given) (out : Stream) : Type 0
-  where
+module _ {A Q C : Type 0} {asks : Ghosts Q A C} where
+  -- A file is open, and once it has ended so the plan has all that is needed of what was given.
+  pub record MayEndFile (engine : Engine A Q C asks) (aim : Aim) (failed : Bool) (given : List Given) (out : Stream)
+      : Type 0 where
     pub steps : List Step
     pub holds : HasPlan engine aim steps out
-    pub closed : is_open steps ≡ false
+    pub running : is_open steps ≡ true
     pub number : opened steps ≡ files_given given
-    pub covers : Covers aim.query (format_of aim) (entries_of steps) (entries_given given)
+    pub covers : Covers aim.query (format_of aim) (entries_of (Ends failed ∷ steps)) (entries_given given)
+
+  -- No file is open, and the plan has all that is needed of what was given.
+  pub record IsBetweenFiles (engine : Engine A Q C asks) (aim : Aim) (given : List Given) (out : Stream) : Type 0
+    where
+      pub steps : List Step
+      pub holds : HasPlan engine aim steps out
+      pub closed : is_open steps ≡ false
+      pub number : opened steps ≡ files_given given
+      pub covers : Covers aim.query (format_of aim) (entries_of steps) (entries_given given)
 
 -- all that was given was told, and nothing failed
 pub record AllIsTold (aim : Aim) (given : List Given) (told : Stream) : Type 0 where
   pub all : told.taken ≡ aim.told.taken ++ told_of aim.setup.silent given
   pub calm : told.failures ≡ aim.told.failures
 
--- no file is open, and all was told
-abbrev pub HasToldAll : {A : Type 0} → Engine A → Aim → List Given → (out told : Stream) → Type 0
-HasToldAll engine aim given out told = IsBetweenFiles engine aim given out × AllIsTold aim given told
+module _ {A Q C : Type 0} {asks : Ghosts Q A C} where
+  -- no file is open, and all was told
+  abbrev pub HasToldAll : Engine A Q C asks → Aim → List Given → (out told : Stream) → Type 0
+  HasToldAll engine aim given out told = IsBetweenFiles engine aim given out × AllIsTold aim given told
 
--- for some run it is so
-abbrev pub HasToldSome : {A : Type 0} → Engine A → List Given → (out told : Stream) → Type 0
-HasToldSome engine given out told = (aim : Aim) × HasToldAll engine aim given out told
+  -- for some run it is so
+  abbrev pub HasToldSome : Engine A Q C asks → List Given → (out told : Stream) → Type 0
+  HasToldSome engine given out told = (aim : Aim) × HasToldAll engine aim given out told
 
 -- what the writer took is a beginning of the output of all that goes on from what was given
 abbrev pub IsCommonBeginning : Aim → List Given → List ℕ → Type 0
@@ -161,7 +164,6 @@ IsCommonBeginning aim given taken = (files : List Entry) → IsContinuation (ent
 
 -- why the reading of a file broke off
 abbrev pub ReadCause : RunFault → Aim → List Given → Stream → Type 0
-ReadCause (Query why) aim given out = ⊥
 ReadCause OutOfMemory aim given out = Unit {0}
 ReadCause Sink aim given out = aim.out.failures < out.failures
 ReadCause TooManyFiles aim given out = 2 ^ 32 - 1 < files_given given
@@ -174,49 +176,34 @@ pub record BreaksOffInFile (aim : Aim) (given : List Given) (out : Stream) (faul
   pub lines : IsOfAFile fault → GotWholeLines aim.query (format_of aim) (entries_given given) aim.out out
   pub calm : NoneFailed fault aim.out out
 
--- at Ok no file is open any more; at Err the reading broke off
-abbrev pub EndsFile : {A T : Type 0} → Engine A → Aim → List Given → Stream → Result T RunFault → Type 0
-EndsFile engine aim given out result =
-    MatchResult result (λ _. IsBetweenFiles engine aim given out) (BreaksOffInFile aim given out)
+module _ {A Q C : Type 0} {asks : Ghosts Q A C} where
+  -- at Ok no file is open any more; at Err the reading broke off
+  abbrev pub EndsFile : {T : Type 0} → Engine A Q C asks → Aim → List Given → Stream → Result T RunFault → Type 0
+  EndsFile engine aim given out result =
+      MatchResult result (λ _. IsBetweenFiles engine aim given out) (BreaksOffInFile aim given out)
 
--- whatever the run is for, at Ok the open file is open still; at Err its reading broke off
-abbrev pub StaysInFile : {A T : Type 0} → (reader reader' : FileReader A) → (engine engine' : Engine A)
-    → (given given' : List Given) → (out out' : Stream) → Result T RunFault → Type 0
-StaysInFile reader reader' engine engine' given given' out out' result =
-    (aim : Aim) → IsInsideFile reader engine aim given out
-    → MatchResult result (λ _. IsInsideFile reader' engine' aim given' out') (BreaksOffInFile aim given' out')
-
--- why a run broke off
-abbrev pub StopCause : RunFault → Aim → List Given → (out told : Stream) → Type 0
-StopCause (Query why) aim given out told = ⊥
-StopCause OutOfMemory aim given out told = Unit {0}
-StopCause Sink aim given out told = (aim.out.failures < out.failures) ⊎ (aim.told.failures < told.failures)
-StopCause TooManyFiles aim given out told = 2 ^ 32 - 1 < files_given given
-StopCause TooLong aim given out told = IsTooLong (terminator aim.query) aim.setup.line given
+  -- whatever the run is for, at Ok the open file is open still; at Err its reading broke off
+  abbrev pub StaysInFile : {T : Type 0} → (reader reader' : FileReader A) → (engine engine' : Engine A Q C asks)
+      → (given given' : List Given) → (out out' : Stream) → Result T RunFault → Type 0
+  StaysInFile reader reader' engine engine' given given' out out' result =
+      (aim : Aim) → IsInsideFile reader engine aim given out
+      → MatchResult result (λ _. IsInsideFile reader' engine' aim given' out') (BreaksOffInFile aim given' out')
 
 -- it broke off, and both writers took beginnings
-pub record BreaksOffTold (aim : Aim) (given : List Given) (out told : Stream) (fault : RunFault) : Type 0 where
-  pub cause : StopCause fault aim given out told
-  pub written : IsCommonBeginning aim given out.taken
-  pub lines : IsOfAFile fault → GotWholeLines aim.query (format_of aim) (entries_given given) aim.out out
-  pub faults : TakesPart (told_of aim.setup.silent given) aim.told.taken told.taken
-  pub calm : NoneFailed fault aim.out out × NoneFailed fault aim.told told
+abbrev pub BreaksOffTold : Aim → List Given → (out told : Stream) → RunFault → Type 0
+BreaksOffTold aim given out told = HasStopped aim.query aim.setup given aim.out out aim.told told
 
--- whatever the run is for, at Ok all that was given by now was told; at Err the run broke off
-abbrev pub TellsOn : {A T : Type 0} → (engine engine' : Engine A) → (given given' : List Given)
-    → (out out' told told' : Stream) → Result T RunFault → Type 0
-TellsOn engine engine' given given' out out' told told' result =
-    (aim : Aim) → HasToldAll engine aim given out told
-    → MatchResult result (λ _. HasToldAll engine' aim given' out' told') (BreaksOffTold aim given' out' told')
-
--- each file before the newest was read as far as was needed, and with -q no line of these was selected
-pub record AreReadRightly (aim : Aim) (given : List Given) : Type 0 where
-  pub left : AreLeftRightly aim.query (format_of aim) (entries_given (drop 1 given))
-  pub quiet : is_quiet (format_of aim).mode ≡ true → EndsAtSelected aim.query (entries_given given)
+module _ {A Q C : Type 0} {asks : Ghosts Q A C} where
+  -- whatever the run is for, at Ok all that was given by now was told; at Err the run broke off
+  abbrev pub TellsOn : {T : Type 0} → (engine engine' : Engine A Q C asks) → (given given' : List Given)
+      → (out out' told told' : Stream) → Result T RunFault → Type 0
+  TellsOn engine engine' given given' out out' told told' result =
+      (aim : Aim) → HasToldAll engine aim given out told
+      → MatchResult result (λ _. HasToldAll engine' aim given' out' told') (BreaksOffTold aim given' out' told')
 
 -- it broke off, behind files that were read as far as was needed
 abbrev pub BreaksOffBehind : Aim → List Given → (out told : Stream) → RunFault → Type 0
-BreaksOffBehind aim given out told fault = BreaksOffTold aim given out told fault × AreReadRightly aim given
+BreaksOffBehind aim given out told = BreaksOff aim.query aim.setup given aim.out out aim.told told
 
 -- nothing more was given, or one more name or file
 abbrev pub GaveOneAtMost : List Given → List Given → Type 0
@@ -232,9 +219,10 @@ GivesNext finds past past' true = (drop 1 past'.given ≡ past.given) × (past'.
 GivesNext finds past past' false =
     (past'.given ≡ past.given) × (past'.done ≡ true) × AllGiven finds past'.given
 
--- all that is needed was given, searched and told
-pub record IsDone {A : Type 0} (engine : Engine A) (aim : Aim) (finds : List (List ℕ) → Type 0) (past : FilesPast)
-    (out told : Stream) : Type 0 where
-  pub rests : HasToldAll engine aim past.given out told
-  pub asked : AsksToTheEnd aim.query aim.setup finds past
-  pub quiet : is_quiet (format_of aim).mode ≡ true → EndsAtSelected aim.query (entries_given past.given)
+module _ {A Q C : Type 0} {asks : Ghosts Q A C} where
+  -- all that is needed was given, searched and told
+  pub record IsDone (engine : Engine A Q C asks) (aim : Aim) (finds : List (List ℕ) → Type 0) (past : FilesPast)
+      (out told : Stream) : Type 0 where
+    pub rests : HasToldAll engine aim past.given out told
+    pub asked : AsksToTheEnd aim.query aim.setup finds past
+    pub quiet : is_quiet (format_of aim).mode ≡ true → EndsAtSelected aim.query (entries_given past.given)

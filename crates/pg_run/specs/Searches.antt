@@ -1,13 +1,12 @@
--- What a query finds in a block, as rounds see it.
-use Rattle.std.specs.Prelude.{◌≡◌}
+-- What a run asks of whatever searches its blocks.
+use Rattle.std.specs.Prelude.{◌≡◌, ◌≤◌, ℕ, List, All, length}
 use Rattle.std.specs.Arc.{arc_value}
 use Rattle.std.specs.declared.sync.Arc.{Arc}
+use mathlib.Core.HLevel.{Π_prop}
 use Rattle.pg_blocks.specs.Blocks.{BlockData}
 use Rattle.pg_blocks.specs.Lines.{AreShort}
-use Rattle.pg_match.specs.Machines.{Room, Fits}
 use Rattle.pg_selection.specs.Search.{SearchText, terminator_of}
 use Rattle.pg_selection.specs.Searched.{Searched}
-use Rattle.pg_lines.specs.Queries.{Compiled}
 use Rattle.pg_workers.specs.Searches.{SearchView}
 
 module _ {A : Type 0} where
@@ -19,10 +18,15 @@ module _ {A : Type 0} where
   abbrev pub IsFoundIn : SearchText → Arc BlockData A → Searched → Type 0
   IsFoundIn text block r = r ≡ record { query = text; block = arc_value block }
 
-  -- blocks with short lines may be searched, by scratches for the query's machine
-  abbrev pub seen_of : Compiled → SearchView (Arc BlockData A) Room Searched
-  seen_of query = record {
-    may = HasShortLines query.text;
-    fits = λ scratch. Fits scratch query.machine;
-    finds = IsFoundIn query.text;
-  }
+module _ {A C : Type 0} (view : SearchView (Arc BlockData A) C Searched) where
+  -- Blocks with short lines may be searched, and what is found is the result for this text.
+  pub record FindsLines (text : SearchText) : Type 0 where
+    pub may : (block : Arc BlockData A) → HasShortLines text block → view.may block
+    pub finds : (block : Arc BlockData A) (found : Searched) → view.finds block found → IsFoundIn text block found
+
+  -- at most so many scratches, each of which was made for this search
+  abbrev pub AreScratches : ℕ → List C → Type 0
+  AreScratches most scratches = (length scratches ≤ most) × All view.fits scratches
+
+  pub fit_once : (scratches : List C) → IsProp (All view.fits scratches)
+  fit_once scratches = Π_prop (λ k. Π_prop (λ d. Π_prop (λ below. view.fits_once _)))

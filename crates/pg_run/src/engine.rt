@@ -1,23 +1,22 @@
 //! Searches blocks, one after another or in rounds.
 ghost use Rattle.std.specs.Prelude.{◌≡◌, ◌+◌, ◌-◌, ◌<◌, ◌≤◌, ◌∷◌, ◌^◌, List, [], true, false, length};
-ghost use Rattle.std.specs.Prelude.{IfOk, MatchResult, OnOk};
-ghost use Rattle.pg_match.specs.Machines.{Fits};
+ghost use Rattle.std.specs.Prelude.{All, IfOk, MatchResult, OnOk};
+ghost use Rattle.std.specs.Arc.{arc_value};
+ghost use Rattle.pg_selection.specs.Search.{HasTrees};
 ghost use Rattle.pg_run.specs.Endless.{is_endless};
-ghost use Rattle.pg_run.specs.Scratches.{AreScratches};
+ghost use Rattle.pg_run.specs.Searches.{AreScratches, FindsLines, fit_once};
 
 use crate::fault::RunFault;
-use crate::gate::Gate;
-use crate::gated::GatedQuery;
 use crate::pace::{Pace, time};
 use crate::room::has_room_for;
 use crate::setup::Setup;
 use pg_base::{Sink, WriteError};
 use pg_blocks::{Block, Cutter};
-use pg_lines::{Kind, Query, Scratch};
 use pg_round::{BlockSearch, NothingToRead, Reader, search_round};
 use pg_rows::Format;
+use pg_selection::Selector;
 use pg_seq::Sequencer;
-use std::alloc::{AllocError, Allocator, Global};
+use std::alloc::{AllocError, Allocator};
 use std::mem;
 use std::sync::{Arc, Wait};
 use std::thread::Threads;
@@ -25,9 +24,6 @@ use std::time::Clock;
 
 /// A round of fewer bytes isn't worth the starting of threads.
 const LEAST_SPREAD: usize = 1_048_576;
-
-/// Shorter texts stand in many lines.
-const RARE: usize = 2;
 
 /// So many bytes are held in reserve while blocks wait for their round.
 const RESERVE: usize = 524_288;
@@ -38,18 +34,21 @@ const MOST_EMPTY: usize = 1_024;
 /// Searches the blocks of files, and has a sequencer put their rows in order.
 ///
 /// A block is searched at once, or waits until its round is searched by several threads.
-pub(crate) struct Engine<A: Allocator + Copy = Global> {
+pub(crate) struct Engine<'q, A: Allocator + Copy, Q: BlockSearch<Alloc = A>> {
     pub(crate) alloc: A,
     pub(crate) setup: Setup,
     /// How many files were opened.
     pub(crate) files: u32,
     /// So many of them were opened when all that could be was written last.
     written: u32,
-    query: Query<A>,
+    /// Searches the blocks.
+    query: &'q Q,
+    /// The byte that ends a line.
+    terminator: u8,
     /// For blocks that are searched at once.
-    scratch: Scratch<A>,
+    scratch: Q::Scratch,
     /// For rounds: the calling thread's, and one for each worker, as many as were needed by now.
-    scratches: Vec<Scratch<A>, A>,
+    scratches: Vec<Q::Scratch, A>,
     /// Whether blocks wait for a round.
     spread: bool,
     /// How fast the last blocks were searched.
@@ -61,14 +60,15 @@ pub(crate) struct Engine<A: Allocator + Copy = Global> {
     spare: Option<Vec<u8, A>>,
     /// Memory that blocks don't take while they wait. It is given back when they are searched, which needs some too.
     reserve: Option<Vec<u8, A>>,
-    ghost fits: { Fits scratch query.machine },
-    ghost scratches_fit: { AreScratches 65 query.machine scratches.items },
+    ghost fits: { (Q.seen query.now).fits scratch } by { (Q.seen query.now).fits_once scratch },
+    ghost few_scratches: { length scratches.items ≤ 65 },
+    ghost all_fit: { All (Q.seen query.now).fits scratches.items } by { fit_once (Q.seen query.now) scratches.items },
     ghost endless: { spread ≡ true → is_endless setup.format ≡ true },
     ghost at_once: { spread ≡ false → round.items ≡ [] },
     ghost few: { length round.items ≤ setup.round },
 }
 
-impl<A: Allocator + Copy> Drop for Engine<A> {
+impl<A: Allocator + Copy, Q: BlockSearch<Alloc = A>> Drop for Engine<'_, A, Q> {
     fn drop(self) {
         let Engine {
             alloc: _,
@@ -76,6 +76,7 @@ impl<A: Allocator + Copy> Drop for Engine<A> {
             files: _,
             written: _,
             query: _,
+            terminator: _,
             scratch: _,
             scratches: _,
             spread: _,
@@ -95,68 +96,43 @@ pub(crate) fn is_endless(format: Format) -> bool
     format.limit.is_none() && !format.mode.settles_at_first()
 }
 
-/// Whether the machine is likely to be asked about most lines. Of other queries one thread finds the lines as fast as
-/// they are read; also of most lists of fixed strings, which have too many literals to tell.
-fn is_slow<A: Allocator>(query: &Query<A>) -> bool {
-    let literals = query.literals();
-    if literals.is_empty() {
-        return query.text().kind != Kind::Fixed;
-    }
-    literals
-        .iter()
-        .any(|literal| !literal.is_enough && literal.text.len() < RARE)
-}
-
 /// Whether blocks are to wait for a round: where several threads may search, and that pays, by how fast the last
-/// blocks were searched, or where too few were, by the query.
-fn is_spread<A: Allocator>(query: &Query<A>, setup: &Setup, pace: Pace) -> bool
+/// blocks were searched, or where too few were, by what searches them.
+fn is_spread<Q: BlockSearch>(query: &Q, setup: &Setup, pace: Pace) -> bool
     ensures { result ≡ true → is_endless setup.now.format ≡ true }
 {
-    let pays = setup.always_spread || pace.is_slow.unwrap_or(is_slow(query));
+    let pays = setup.always_spread || pace.is_slow.unwrap_or(query.is_slow());
     pays && setup.workers > 0 && setup.round > 1 && is_endless(setup.format)
 }
 
-/// Room for the searches of a thread.
-fn scratch_for<A: Allocator + Copy>(alloc: A, query: &Query<A>) -> Result<Scratch<A>, AllocError>
-    ensures { IfOk result (λ scratch. Fits scratch query.now.machine) }
-{
-    if query.text().pieces {
-        Scratch::with_parts(alloc, query.machine())
-    } else {
-        Scratch::new(alloc, query.machine())
-    }
-}
-
-/// Makes one more scratch for a query. There are fewer than 65.
-fn add_scratch<A: Allocator + Copy>(
-    alloc: A,
-    query: &Query<A>,
-    scratches: &mut Vec<Scratch<A>, A>,
+/// Makes one more scratch. There are fewer than 65.
+fn add_scratch<A: Allocator + Copy, Q: BlockSearch<Alloc = A>>(
+    query: &Q,
+    scratches: &mut Vec<Q::Scratch, A>,
 ) -> Result<(), AllocError>
-    requires { AreScratches 64 query.now.machine scratches.old.items }
+    requires { AreScratches (Q.seen query.now) 64 scratches.old.items }
     ensures more { OnOk result (length scratches.new.items ≡ length scratches.old.items + 1) }
-    ensures scratches { AreScratches 65 query.now.machine scratches.new.items }
+    ensures scratches { AreScratches (Q.seen query.now) 65 scratches.new.items }
 {
-    let scratch = scratch_for(alloc, query)?;
+    let scratch = query.scratch()?;
     scratches.push(scratch)?;
     Ok(())
 }
 
-/// Makes scratches for a query until there are so many, 1 to 65. Where memory is refused, the thread that would have
-/// needed it is given up, but one scratch there has to be.
-fn equip<A: Allocator + Copy>(
-    alloc: A,
-    query: &Query<A>,
-    scratches: &mut Vec<Scratch<A>, A>,
+/// Makes scratches until there are so many, 1 to 65. Where memory is refused, the thread that would have needed it is
+/// given up, but one scratch there has to be.
+fn equip<A: Allocator + Copy, Q: BlockSearch<Alloc = A>>(
+    query: &Q,
+    scratches: &mut Vec<Q::Scratch, A>,
     count: usize,
 ) -> Result<(), AllocError>
     requires count { (0 < count) × (count ≤ 65) }
-    requires scratches { AreScratches 65 query.now.machine scratches.old.items }
+    requires scratches { AreScratches (Q.seen query.now) 65 scratches.old.items }
     ensures some { OnOk result (0 < length scratches.new.items) }
-    ensures scratches { AreScratches 65 query.now.machine scratches.new.items }
+    ensures scratches { AreScratches (Q.seen query.now) 65 scratches.new.items }
 {
     while scratches.len() < count {
-        if let Err(refusal) = add_scratch(alloc, query, scratches) {
+        if let Err(refusal) = add_scratch(query, scratches) {
             return if scratches.is_empty() {
                 Err(refusal)
             } else {
@@ -175,7 +151,7 @@ fn memory_of<A: Allocator>(block: Arc<Block<A>, A>) -> Option<Vec<u8, A>> {
     }
 }
 
-impl<A: Allocator + Copy> Engine<A> {
+impl<'q, A: Allocator + Copy, Q: BlockSearch<Alloc = A>> Engine<'q, A, Q> {
     ghost use Rattle.pg_rows.specs.Enough.{is_enough};
     ghost use Rattle.pg_seq.specs.Plan.{Step, Opens, Announces, Ends, Misses, entries_of};
     ghost use Rattle.pg_base.specs.Sink.{Stream};
@@ -183,20 +159,29 @@ impl<A: Allocator + Copy> Engine<A> {
     ghost use Rattle.pg_run.specs.Holding.{EmptiesRound, KeepsPlan, MayTakeStep, OpensFile, PlansStay};
     ghost use Rattle.pg_run.specs.Holding.{SearchesAsBefore, SearchesStep, TakesStep};
 
-    /// An engine that has no file yet.
-    pub(crate) fn new(alloc: A, query: Query<A>, setup: Setup) -> Result<Engine<A>, AllocError>
-        ensures { IfOk result (IsNewEngine query.text setup) }
+    /// An engine that has no file yet, for the lines that the selector selects, which the query finds.
+    pub(crate) fn new(
+        alloc: A,
+        query: &'q Q,
+        selector: Arc<Selector<A>, A>,
+        setup: Setup,
+    ) -> Result<Engine<'q, A, Q>, AllocError>
+        requires { FindsLines (Q.seen query.now) (arc_value selector) }
+        ensures new { IfOk result (IsNewEngine (arc_value selector) setup) }
+        ensures trees { OnOk result (HasTrees (arc_value selector)) }
     {
         let pace = Pace::new();
-        let spread = is_spread(&query, &setup, pace);
-        let sequencer = Sequencer::new(alloc, Arc::try_clone(query.selector())?, setup.format)?;
-        let scratch = scratch_for(alloc, &query)?;
+        let spread = is_spread(query, &setup, pace);
+        let terminator = selector.text().terminator();
+        let sequencer = Sequencer::new(alloc, selector, setup.format)?;
+        let scratch = query.scratch()?;
         Ok(Engine {
             alloc,
             setup,
             files: 0,
             written: 0,
             query,
+            terminator,
             scratch,
             scratches: Vec::new(alloc),
             spread,
@@ -209,19 +194,14 @@ impl<A: Allocator + Copy> Engine<A> {
     }
 
     /// Searches the open file's next block, and gives the sequencer its result. No block waits. Answers the block.
-    fn take<G: Gate>(&mut self, gate: &G, block: Block<A>) -> Result<Arc<Block<A>, A>, AllocError>
+    fn take(&mut self, block: Block<A>) -> Result<Arc<Block<A>, A>, AllocError>
         requires at_once { self.old.spread ≡ false }
         requires ready { MayTakeStep self.old (Announces block) }
         ensures none { self.new.round.items ≡ [] }
         ensures ok { TakesStep self.old self.new (Announces block) result }
     {
         let block = Arc::new(self.alloc, block)?;
-        let query = GatedQuery {
-            alloc: self.alloc,
-            query: &self.query,
-            gate,
-        };
-        let found = query.search(&mut self.scratch, 0, &block)?;
+        let found = self.query.search(&mut self.scratch, 0, &block)?;
         let kept = Arc::try_clone(&block)?;
         self.sequencer.announce(block)?;
         self.sequencer.keep(found);
@@ -270,10 +250,9 @@ impl<A: Allocator + Copy> Engine<A> {
 
     /// Searches the open file's next block and writes what may be written, or has the block wait where blocks
     /// are searched in rounds. There is room for it, and it may follow on those before it.
-    pub(crate) fn search<R: Clock, W: Sink, G: Gate>(
+    pub(crate) fn search<R: Clock, W: Sink>(
         &mut self,
         rt: &R,
-        gate: &G,
         block: Block<A>,
         out: &mut W,
     ) -> Result<(), RunFault>
@@ -287,7 +266,7 @@ impl<A: Allocator + Copy> Engine<A> {
         }
         let len = block.bytes.len();
         let begun = time(rt);
-        let kept = self.take(gate, block)?;
+        let kept = self.take(block)?;
         let pace = self.pace.after(rt, begun, len, 1);
         self.drain(out)?;
         self.spare = memory_of(kept);
@@ -321,7 +300,7 @@ impl<A: Allocator + Copy> Engine<A> {
         ensures holds { PlansStay self.old self.new }
     {
         if self.round.is_empty() {
-            self.spread = is_spread(&self.query, &self.setup, self.pace);
+            self.spread = is_spread(self.query, &self.setup, self.pace);
         }
     }
 
@@ -361,7 +340,7 @@ impl<A: Allocator + Copy> Engine<A> {
             file,
             self.setup.block,
             self.setup.line,
-            self.query.terminator(),
+            self.terminator,
         ))
     }
 
@@ -403,7 +382,11 @@ impl<A: Allocator + Copy> Engine<A> {
     }
 }
 
-impl<A: Allocator + Copy + Send + Sync> Engine<A> {
+impl<A: Allocator + Copy + Send + Sync, Q: BlockSearch<Alloc = A, Scratch: Send> + Sync> Engine<
+    '_,
+    A,
+    Q,
+> {
     ghost use Rattle.pg_seq.specs.Plan.{Step, is_open};
     ghost use Rattle.pg_round.specs.Reading.{HasGoneOn};
     ghost use Rattle.pg_run.specs.Holding.{Aim, HasPlan, HasRoomInRound, HasSomePlan, BreaksOffInSearch};
@@ -411,16 +394,9 @@ impl<A: Allocator + Copy + Send + Sync> Engine<A> {
 
     /// Searches the blocks that wait, by several threads where that pays, and writes all that may be written. Meanwhile
     /// the reader reads on.
-    pub(crate) fn search_round<
-        R: Threads + Wait + Clock + Sync,
-        D: Reader<X>,
-        X,
-        W: Sink,
-        G: Gate + Sync,
-    >(
+    pub(crate) fn search_round<R: Threads + Wait + Clock + Sync, D: Reader<X>, X, W: Sink>(
         &mut self,
         rt: &R,
-        gate: &G,
         reader: &mut D,
         from: &mut X,
         out: &mut W,
@@ -435,21 +411,11 @@ impl<A: Allocator + Copy + Send + Sync> Engine<A> {
         let workers = self.workers(bytes);
         let begun = time(rt);
         let mut scratches = mem::replace(&mut self.scratches, Vec::new(self.alloc));
-        equip(
-            self.alloc,
-            &self.query,
-            &mut scratches,
-            workers as usize + 1,
-        )?;
-        let query = GatedQuery {
-            alloc: self.alloc,
-            query: &self.query,
-            gate,
-        };
+        equip(self.query, &mut scratches, workers as usize + 1)?;
         search_round(
             rt,
             self.alloc,
-            &query,
+            self.query,
             &self.round,
             workers,
             &mut scratches,
@@ -466,10 +432,9 @@ impl<A: Allocator + Copy + Send + Sync> Engine<A> {
     }
 
     /// Searches the blocks that wait, if there are any, and writes all that may be written.
-    pub(crate) fn flush<R: Threads + Wait + Clock + Sync, W: Sink, G: Gate + Sync>(
+    pub(crate) fn flush<R: Threads + Wait + Clock + Sync, W: Sink>(
         &mut self,
         rt: &R,
-        gate: &G,
         out: &mut W,
     ) -> Result<(), RunFault>
         requires holds { HasSomePlan self.old (W.stream out.old) }
@@ -478,14 +443,13 @@ impl<A: Allocator + Copy + Send + Sync> Engine<A> {
         if self.round.is_empty() {
             return self.drain(out);
         }
-        self.search_round(rt, gate, &mut NothingToRead, &mut (), out)
+        self.search_round(rt, &mut NothingToRead, &mut (), out)
     }
 
     /// Searches the blocks that wait, where they are as many as a round has: there is room for one more then.
-    pub(crate) fn make_room<R: Threads + Wait + Clock + Sync, W: Sink, G: Gate + Sync>(
+    pub(crate) fn make_room<R: Threads + Wait + Clock + Sync, W: Sink>(
         &mut self,
         rt: &R,
-        gate: &G,
         out: &mut W,
     ) -> Result<(), RunFault>
         requires holds { HasSomePlan self.old (W.stream out.old) }
@@ -495,14 +459,13 @@ impl<A: Allocator + Copy + Send + Sync> Engine<A> {
         if !self.is_full() {
             return Ok(());
         }
-        self.flush(rt, gate, out)
+        self.flush(rt, out)
     }
 
     /// Searches the blocks that wait, if there are any, and has their rows written.
-    pub(crate) fn flush_waiting<R: Threads + Wait + Clock + Sync, W: Sink, G: Gate + Sync>(
+    pub(crate) fn flush_waiting<R: Threads + Wait + Clock + Sync, W: Sink>(
         &mut self,
         rt: &R,
-        gate: &G,
         out: &mut W,
     ) -> Result<(), RunFault>
         requires holds { HasSomePlan self.old (W.stream out.old) }
@@ -511,15 +474,14 @@ impl<A: Allocator + Copy + Send + Sync> Engine<A> {
         if !self.has_waiting() {
             return Ok(());
         }
-        self.flush(rt, gate, out)
+        self.flush(rt, out)
     }
 
     /// Writes what the files give that have ended, unless blocks wait for their round, and no more files wait behind
     /// them than may.
-    pub(crate) fn flush_ended<R: Threads + Wait + Clock + Sync, W: Sink, G: Gate + Sync>(
+    pub(crate) fn flush_ended<R: Threads + Wait + Clock + Sync, W: Sink>(
         &mut self,
         rt: &R,
-        gate: &G,
         out: &mut W,
     ) -> Result<(), RunFault>
         requires holds { HasSomePlan self.old (W.stream out.old) }
@@ -528,15 +490,14 @@ impl<A: Allocator + Copy + Send + Sync> Engine<A> {
         if self.has_waiting() && !self.has_many_empty() {
             return Ok(());
         }
-        self.flush(rt, gate, out)
+        self.flush(rt, out)
     }
 
     /// Searches what waits and has its rows written, before the run breaks off by this fault. Answers it, or the fault
     /// by which that broke off.
-    pub(crate) fn break_off<R: Threads + Wait + Clock + Sync, W: Sink, G: Gate + Sync>(
+    pub(crate) fn break_off<R: Threads + Wait + Clock + Sync, W: Sink>(
         &mut self,
         rt: &R,
-        gate: &G,
         fault: RunFault,
         out: &mut W,
     ) -> RunFault
@@ -544,17 +505,16 @@ impl<A: Allocator + Copy + Send + Sync> Engine<A> {
         ensures { (aim : Aim) → (steps : List Step) → HasPlan self.old aim steps (W.stream out.old) →
             IsWrittenFirst aim steps (W.stream out.new) fault result }
     {
-        match self.flush(rt, gate, out) {
+        match self.flush(rt, out) {
             Ok(()) => fault,
             Err(failure) => failure,
         }
     }
 
     /// Searches what waits, writes what is left, and answers the status. No file is open.
-    pub(crate) fn finish<R: Threads + Wait + Clock + Sync, W: Sink, G: Gate + Sync>(
+    pub(crate) fn finish<R: Threads + Wait + Clock + Sync, W: Sink>(
         &mut self,
         rt: &R,
-        gate: &G,
         out: &mut W,
     ) -> Result<u8, RunFault>
         requires holds { (aim : Aim) × (steps : List Step)
@@ -563,7 +523,7 @@ impl<A: Allocator + Copy + Send + Sync> Engine<A> {
             MatchResult result (IsFinished aim steps (W.stream out.new))
             (BreaksOffInSearch aim steps (W.stream out.new)) }
     {
-        self.flush(rt, gate, out)?;
+        self.flush(rt, out)?;
         Ok(self.sequencer.status().unwrap())
     }
 }

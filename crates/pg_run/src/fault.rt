@@ -1,10 +1,9 @@
 //! Why a run doesn't end with a status.
 ghost use Rattle.std.specs.Prelude.{◌≡◌};
-ghost use Rattle.pg_run.specs.Faults.{fault_of_cut, fault_of_query, fault_of_round};
+ghost use Rattle.pg_run.specs.Faults.{fault_of_cut, fault_of_round};
 ghost use Rattle.pg_run.specs.declared.fault.RunFault.TheVariants.{OutOfMemory, Sink};
 
 use pg_blocks::CutFault;
-use pg_lines::QueryFault;
 use pg_round::RoundFault;
 use pg_seq::SinkFault;
 use std::alloc::AllocError;
@@ -13,10 +12,6 @@ use thiserror::Error;
 /// Why a run doesn't end with a status.
 #[derive(Clone, Copy, Debug, PartialEq, Eq, Error)]
 pub enum RunFault {
-    /// The patterns can't be searched for. Nothing was asked for or written, and it isn't for want of
-    /// memory.
-    #[error("{0}")]
-    Query(QueryFault),
     /// A request for memory was refused.
     #[error("out of memory")]
     OutOfMemory,
@@ -29,17 +24,6 @@ pub enum RunFault {
     /// A line of a file is longer than the setup allows, or the file has more than 2^62 bytes.
     #[error("line too long")]
     TooLong,
-}
-
-impl From<QueryFault> for RunFault {
-    ghost from_gives = { λ query fault. fault ≡ fault_of_query query };
-
-    fn from(fault: QueryFault) -> RunFault {
-        match fault {
-            QueryFault::OutOfMemory => RunFault::OutOfMemory,
-            fault => RunFault::Query(fault),
-        }
-    }
 }
 
 impl From<AllocError> for RunFault {

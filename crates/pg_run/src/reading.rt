@@ -12,10 +12,10 @@ ghost use Rattle.pg_run.specs.declared.reader.ReadOutcome.TheVariants.{More};
 
 use crate::engine::{Engine, is_endless};
 use crate::fault::RunFault;
-use crate::gate::Gate;
 use crate::reader::{FileReader, ReadOutcome};
 use pg_base::Sink;
 use pg_files::Files;
+use pg_round::BlockSearch;
 use std::alloc::Allocator;
 use std::sync::Wait;
 use std::thread::Threads;
@@ -26,14 +26,13 @@ use std::time::Clock;
 fn make_room<
     R: Threads + Wait + Clock + Sync,
     A: Allocator + Copy + Send + Sync,
+    Q: BlockSearch<Alloc = A, Scratch: Send> + Sync,
     F: Files,
     W: Sink,
-    G: Gate + Sync,
 >(
     rt: &R,
-    gate: &G,
     reader: &mut FileReader<A>,
-    engine: &mut Engine<A>,
+    engine: &mut Engine<'_, A, Q>,
     files: &mut F,
     out: &mut W,
 ) -> Result<(), RunFault>
@@ -51,7 +50,7 @@ fn make_room<
     } else {
         engine.reads_ahead()
     };
-    engine.search_round(rt, gate, reader, files, out)
+    engine.search_round(rt, reader, files, out)
 }
 
 /// Searches the blocks that are cut, and where each row is to be seen at once, has their rows sent on. There is room
@@ -59,14 +58,13 @@ fn make_room<
 fn search_ready<
     R: Threads + Wait + Clock + Sync,
     A: Allocator + Copy + Send + Sync,
+    Q: BlockSearch<Alloc = A, Scratch: Send> + Sync,
     F: Files,
     W: Sink,
-    G: Gate + Sync,
 >(
     rt: &R,
-    gate: &G,
     reader: &mut FileReader<A>,
-    engine: &mut Engine<A>,
+    engine: &mut Engine<'_, A, Q>,
     files: &mut F,
     out: &mut W,
 ) -> Result<(), RunFault>
@@ -77,11 +75,11 @@ fn search_ready<
         (F.past files.old).given (F.past files.new).given (W.stream out.old) (W.stream out.new) result }
 {
     for _ in rt.forever() {
-        make_room(rt, gate, reader, engine, files, out)?;
+        make_room(rt, reader, engine, files, out)?;
         let Some(block) = reader.take() else {
             return Ok(());
         };
-        engine.search(rt, gate, block, out)?;
+        engine.search(rt, block, out)?;
         engine.send_on(engine.setup.line_buffered, out)?;
     }
     unreachable!()
@@ -91,13 +89,12 @@ fn search_ready<
 fn search_lines<
     R: Threads + Wait + Clock + Sync,
     A: Allocator + Copy + Send + Sync,
+    Q: BlockSearch<Alloc = A, Scratch: Send> + Sync,
     W: Sink,
-    G: Gate + Sync,
 >(
     rt: &R,
-    gate: &G,
     reader: &mut FileReader<A>,
-    engine: &mut Engine<A>,
+    engine: &mut Engine<'_, A, Q>,
     out: &mut W,
 ) -> Result<(), RunFault>
     requires in_file { IsReadingSomeFile reader.old engine.old (W.stream out.old) }
@@ -106,18 +103,18 @@ fn search_lines<
     ensures outcome { (given : List Given) → StaysInFile reader.old reader.new engine.old engine.new
         given given (W.stream out.old) (W.stream out.new) result }
 {
-    engine.make_room(rt, gate, out)?;
+    engine.make_room(rt, out)?;
     match reader.take_lines() {
-        Some(lines) => engine.search(rt, gate, lines, out),
+        Some(lines) => engine.search(rt, lines, out),
         None => Ok(()),
     }
 }
 
 /// Whether what came of the open file is to be searched before the next read, though it fills no block: where that read
 /// may wait, or may find a small file's end alone, and lines that came may be enough.
-fn is_due<A: Allocator + Copy, F: Files>(
+fn is_due<A: Allocator + Copy, Q: BlockSearch<Alloc = A>, F: Files>(
     reader: &FileReader<A>,
-    engine: &Engine<A>,
+    engine: &Engine<'_, A, Q>,
     files: &F,
 ) -> bool {
     files.may_wait() || reader.has_read_once() && !is_endless(engine.setup.format)
@@ -128,14 +125,13 @@ fn is_due<A: Allocator + Copy, F: Files>(
 fn settle<
     R: Threads + Wait + Clock + Sync,
     A: Allocator + Copy + Send + Sync,
+    Q: BlockSearch<Alloc = A, Scratch: Send> + Sync,
     F: Files,
     W: Sink,
-    G: Gate + Sync,
 >(
     rt: &R,
-    gate: &G,
     reader: &mut FileReader<A>,
-    engine: &mut Engine<A>,
+    engine: &mut Engine<'_, A, Q>,
     files: &F,
     out: &mut W,
 ) -> Result<(), RunFault>
@@ -147,15 +143,18 @@ fn settle<
     if engine.enough() || !is_due(reader, engine, files) {
         return Ok(());
     }
-    search_lines(rt, gate, reader, engine, out)?;
-    engine.flush_waiting(rt, gate, out)?;
+    search_lines(rt, reader, engine, out)?;
+    engine.flush_waiting(rt, out)?;
     engine.send_on(files.may_wait(), out)?;
     Ok(())
 }
 
 /// Gives the memory of the block that was searched last back to the reader, and has the engine decide how it searches
 /// the next ones.
-fn recycle<A: Allocator + Copy>(reader: &mut FileReader<A>, engine: &mut Engine<A>)
+fn recycle<A: Allocator + Copy, Q: BlockSearch<Alloc = A>>(
+    reader: &mut FileReader<A>,
+    engine: &mut Engine<'_, A, Q>,
+)
     ensures came { reader.new.came ≡ reader.old.came }
     ensures in_file { (aim : Aim) → (given : List Given) → (out : Stream) →
         IsInsideFile reader.old engine.old aim given out → IsInsideFile reader.new engine.new aim given out }
@@ -168,14 +167,13 @@ fn recycle<A: Allocator + Copy>(reader: &mut FileReader<A>, engine: &mut Engine<
 fn read_once<
     R: Threads + Wait + Clock + Sync,
     A: Allocator + Copy + Send + Sync,
+    Q: BlockSearch<Alloc = A, Scratch: Send> + Sync,
     F: Files,
     W: Sink,
-    G: Gate + Sync,
 >(
     rt: &R,
-    gate: &G,
     reader: &mut FileReader<A>,
-    engine: &mut Engine<A>,
+    engine: &mut Engine<'_, A, Q>,
     files: &mut F,
     out: &mut W,
 ) -> Result<(), RunFault>
@@ -188,16 +186,15 @@ fn read_once<
 {
     recycle(reader, engine);
     reader.read(files);
-    search_ready(rt, gate, reader, engine, files, out)?;
+    search_ready(rt, reader, engine, files, out)?;
     Ok(())
 }
 
 /// Searches what is left once the file can't go on.
-fn search_last<R: Clock, A: Allocator + Copy + Send + Sync, W: Sink, G: Gate>(
+fn search_last<R: Clock, A: Allocator + Copy, Q: BlockSearch<Alloc = A>, W: Sink>(
     rt: &R,
-    gate: &G,
     reader: &mut FileReader<A>,
-    engine: &mut Engine<A>,
+    engine: &mut Engine<'_, A, Q>,
     failed: bool,
     out: &mut W,
 ) -> Result<(), RunFault>
@@ -208,7 +205,7 @@ fn search_last<R: Clock, A: Allocator + Copy + Send + Sync, W: Sink, G: Gate>(
         (BreaksOffInFile aim given (W.stream out.new)) }
 {
     match reader.finish() {
-        Some(block) => engine.search(rt, gate, block, out),
+        Some(block) => engine.search(rt, block, out),
         None => Ok(()),
     }
 }
@@ -218,9 +215,9 @@ fn search_last<R: Clock, A: Allocator + Copy + Send + Sync, W: Sink, G: Gate>(
 fn end_file<
     R: Threads + Wait + Clock + Sync,
     A: Allocator + Copy + Send + Sync,
+    Q: BlockSearch<Alloc = A, Scratch: Send> + Sync,
     W: Sink,
-    G: Gate + Sync,
->(rt: &R, gate: &G, engine: &mut Engine<A>, failed: bool, out: &mut W) -> Result<bool, RunFault>
+>(rt: &R, engine: &mut Engine<'_, A, Q>, failed: bool, out: &mut W) -> Result<bool, RunFault>
     requires may_end { (aim : Aim) × (given : List Given) × MayEndFile engine.old aim failed given (W.stream out.old) }
     ensures failed { IfOk result (λ answer. answer ≡ failed) }
     ensures outcome { (aim : Aim) → (given : List Given) →
@@ -228,7 +225,7 @@ fn end_file<
         EndsFile engine.new aim given (W.stream out.new) result }
 {
     engine.end(failed);
-    engine.flush_ended(rt, gate, out)?;
+    engine.flush_ended(rt, out)?;
     let is_due = engine.setup.line_buffered || failed && !engine.setup.silent;
     engine.send_on(is_due, out)?;
     Ok(failed)
@@ -238,13 +235,12 @@ fn end_file<
 fn finish_file<
     R: Threads + Wait + Clock + Sync,
     A: Allocator + Copy + Send + Sync,
+    Q: BlockSearch<Alloc = A, Scratch: Send> + Sync,
     W: Sink,
-    G: Gate + Sync,
 >(
     rt: &R,
-    gate: &G,
     reader: &mut FileReader<A>,
-    engine: &mut Engine<A>,
+    engine: &mut Engine<'_, A, Q>,
     failed: bool,
     out: &mut W,
 ) -> Result<bool, RunFault>
@@ -254,8 +250,8 @@ fn finish_file<
         IsInsideFile reader.old engine.old aim given (W.stream out.old) →
         EndsFile engine.new aim given (W.stream out.new) result }
 {
-    search_last(rt, gate, reader, engine, failed, out)?;
-    end_file(rt, gate, engine, failed, out)
+    search_last(rt, reader, engine, failed, out)?;
+    end_file(rt, engine, failed, out)
 }
 
 /// Reads the open file until enough was read, its end is met or a read fails, and ends it. What came is searched before
@@ -263,14 +259,13 @@ fn finish_file<
 pub(crate) fn read_file<
     R: Threads + Wait + Clock + Sync,
     A: Allocator + Copy + Send + Sync,
+    Q: BlockSearch<Alloc = A, Scratch: Send> + Sync,
     F: Files,
     W: Sink,
-    G: Gate + Sync,
 >(
     rt: &R,
-    gate: &G,
     reader: &mut FileReader<A>,
-    engine: &mut Engine<A>,
+    engine: &mut Engine<'_, A, Q>,
     files: &mut F,
     out: &mut W,
 ) -> Result<bool, RunFault>
@@ -283,18 +278,18 @@ pub(crate) fn read_file<
         EndsFile engine.new aim (F.past files.new).given (W.stream out.new) result }
 {
     for _ in rt.forever() {
-        settle(rt, gate, reader, engine, files, out)?;
+        settle(rt, reader, engine, files, out)?;
         if engine.enough() {
-            return end_file(rt, gate, engine, false, out);
+            return end_file(rt, engine, false, out);
         }
-        read_once(rt, gate, reader, engine, files, out)?;
+        read_once(rt, reader, engine, files, out)?;
         match reader.came {
             ReadOutcome::More => {}
-            ReadOutcome::End => return finish_file(rt, gate, reader, engine, false, out),
-            ReadOutcome::Failure => return finish_file(rt, gate, reader, engine, true, out),
+            ReadOutcome::End => return finish_file(rt, reader, engine, false, out),
+            ReadOutcome::Failure => return finish_file(rt, reader, engine, true, out),
             ReadOutcome::Refused(fault) => {
                 let fault = RunFault::from(fault);
-                return Err(engine.break_off(rt, gate, fault, out));
+                return Err(engine.break_off(rt, fault, out));
             }
         }
     }

@@ -1,15 +1,17 @@
 //! The run over all files.
 ghost use Rattle.std.specs.Prelude.{◌≡◌, ◌-◌, ◌^◌, ◌<◌, ◌∷◌, ◌++◌, List, [], not, false};
 ghost use Rattle.std.specs.Prelude.{IfOk, MatchResult, OnOk, IfErr, OnErr};
+ghost use Rattle.std.specs.Arc.{arc_value};
 ghost use Rattle.std.specs.List.{flat_map};
-ghost use Rattle.pg_selection.specs.Search.{Search, Pattern, AreTreesOf};
+ghost use Rattle.pg_selection.specs.Search.{Search};
 ghost use Rattle.pg_base.specs.Entries.{Left};
 ghost use Rattle.pg_rows.specs.Output.{when};
 ghost use Rattle.pg_base.specs.Sink.{Stream, WritesText};
 ghost use Rattle.pg_files.specs.Given.{Given, NoFile, File, nothing_given};
 ghost use Rattle.pg_run.specs.Told.{fault_line};
-ghost use Rattle.pg_run.specs.Outcome.{IsSearchFor, RunFinishes, BreaksOff, HasCause};
-ghost use Rattle.pg_run.specs.Holding.{Aim, IsNewEngine};
+ghost use Rattle.pg_run.specs.Outcome.{IsSearchFor, RunFinishes, BreaksOff};
+ghost use Rattle.pg_run.specs.Searches.{FindsLines};
+ghost use Rattle.pg_run.specs.Holding.{Aim};
 ghost use Rattle.pg_run.specs.Reading.{AwaitsMore, IsInsideFile, IsBetweenFiles, HasToldAll, HasToldSome};
 ghost use Rattle.pg_run.specs.Reading.{GaveFile, GaveOneAtMost, GivesNext, IsDone, OnlyReadsOn, TellsOn};
 ghost use Rattle.pg_run.specs.Reading.{BreaksOffBehind};
@@ -17,38 +19,21 @@ ghost use Rattle.pg_run.specs.declared.fault.RunFault.TheVariants.{Sink as SinkF
 
 use crate::engine::Engine;
 use crate::fault::RunFault;
-use crate::gate::Gate;
 use crate::reader::FileReader;
 use crate::reading::read_file;
 use crate::setup::Setup;
 use crate::telling::tell;
 use pg_base::{Cause, Sink, WriteError};
 use pg_files::{Files, Step};
-use pg_lines::Query;
-use pg_selection::QueryText;
+use pg_round::BlockSearch;
+use pg_selection::Selector;
 use std::alloc::{AllocError, Allocator};
-use std::sync::Wait;
+use std::sync::{Arc, Wait};
 use std::thread::Threads;
 use std::time::Clock;
 
 /// So many files get a number.
 const MOST_FILES: u32 = u32::MAX;
-
-/// An engine for a text.
-fn begin<A: Allocator + Copy + Send + Sync>(
-    alloc: A,
-    text: QueryText<A>,
-    setup: Setup,
-) -> Result<Engine<A>, RunFault>
-    ensures holds { IfOk result (IsNewEngine text setup) }
-    ensures trees { OnOk result ((trees : List Pattern) × AreTreesOf text trees) }
-    ensures err { IfErr result (λ fault. (out : Stream) → (told : Stream) →
-        HasCause fault text setup nothing_given out out told told) }
-{
-    let query = Query::compile(alloc, text)?;
-    let engine = Engine::new(alloc, query, setup)?;
-    Ok(engine)
-}
 
 /// The parts of a fault line, in their order.
 fn line_of<'a>(
@@ -92,8 +77,8 @@ fn tell_fault<A: Allocator + Copy, E: Sink>(
 }
 
 /// Tells and notes a name that gives no file. The rows of those before it are sent on before.
-fn miss<A: Allocator + Copy + Send + Sync, W: Sink, E: Sink>(
-    engine: &mut Engine<A>,
+fn miss<A: Allocator + Copy, Q: BlockSearch<Alloc = A>, W: Sink, E: Sink>(
+    engine: &mut Engine<'_, A, Q>,
     name: &[u8],
     cause: Cause,
     out: &mut W,
@@ -110,8 +95,8 @@ fn miss<A: Allocator + Copy + Send + Sync, W: Sink, E: Sink>(
 }
 
 /// Begins with a file that was just given. At most 2^32 - 2 files were opened before.
-fn open_file<A: Allocator + Copy>(
-    engine: &mut Engine<A>,
+fn open_file<A: Allocator + Copy, Q: BlockSearch<Alloc = A>>(
+    engine: &mut Engine<'_, A, Q>,
     reader: &mut FileReader<A>,
     name: &[u8],
 ) -> Result<(), AllocError>
@@ -130,14 +115,13 @@ fn open_file<A: Allocator + Copy>(
 fn one_file<
     R: Threads + Wait + Clock + Sync,
     A: Allocator + Copy + Send + Sync,
+    Q: BlockSearch<Alloc = A, Scratch: Send> + Sync,
     F: Files,
     W: Sink,
     E: Sink,
-    G: Gate + Sync,
 >(
     rt: &R,
-    gate: &G,
-    engine: &mut Engine<A>,
+    engine: &mut Engine<'_, A, Q>,
     files: &mut F,
     reader: &mut FileReader<A>,
     out: &mut W,
@@ -151,10 +135,10 @@ fn one_file<
         (W.stream out.old) (W.stream out.new) (E.stream faults.old) (E.stream faults.new) result }
 {
     if engine.files >= MOST_FILES {
-        return Err(engine.break_off(rt, gate, RunFault::TooManyFiles, out));
+        return Err(engine.break_off(rt, RunFault::TooManyFiles, out));
     }
     open_file(engine, reader, files.name())?;
-    let failed = read_file(rt, gate, reader, engine, files, out)?;
+    let failed = read_file(rt, reader, engine, files, out)?;
     if failed {
         let silent = engine.setup.silent;
         tell_fault(
@@ -172,14 +156,13 @@ fn one_file<
 fn take_next<
     R: Threads + Wait + Clock + Sync,
     A: Allocator + Copy + Send + Sync,
+    Q: BlockSearch<Alloc = A, Scratch: Send> + Sync,
     F: Files,
     W: Sink,
     E: Sink,
-    G: Gate + Sync,
 >(
     rt: &R,
-    gate: &G,
-    engine: &mut Engine<A>,
+    engine: &mut Engine<'_, A, Q>,
     files: &mut F,
     reader: &mut FileReader<A>,
     out: &mut W,
@@ -200,7 +183,7 @@ fn take_next<
             Ok(true)
         }
         Step::File => {
-            one_file(rt, gate, engine, files, reader, out, faults)?;
+            one_file(rt, engine, files, reader, out, faults)?;
             Ok(true)
         }
     }
@@ -210,14 +193,13 @@ fn take_next<
 fn all_files<
     R: Threads + Wait + Clock + Sync,
     A: Allocator + Copy + Send + Sync,
+    Q: BlockSearch<Alloc = A, Scratch: Send> + Sync,
     F: Files,
     W: Sink,
     E: Sink,
-    G: Gate + Sync,
 >(
     rt: &R,
-    gate: &G,
-    engine: &mut Engine<A>,
+    engine: &mut Engine<'_, A, Q>,
     files: &mut F,
     reader: &mut FileReader<A>,
     out: &mut W,
@@ -235,7 +217,7 @@ fn all_files<
         if engine.enough() {
             return Ok(());
         }
-        if !take_next(rt, gate, engine, files, reader, out, faults)? {
+        if !take_next(rt, engine, files, reader, out, faults)? {
             return Ok(());
         }
     }
@@ -246,14 +228,13 @@ fn all_files<
 fn search_files<
     R: Threads + Wait + Clock + Sync,
     A: Allocator + Copy + Send + Sync,
+    Q: BlockSearch<Alloc = A, Scratch: Send> + Sync,
     F: Files,
     W: Sink,
     E: Sink,
-    G: Gate + Sync,
 >(
     rt: &R,
-    gate: &G,
-    engine: &mut Engine<A>,
+    engine: &mut Engine<'_, A, Q>,
     files: &mut F,
     out: &mut W,
     faults: &mut E,
@@ -267,56 +248,54 @@ fn search_files<
         (BreaksOffBehind aim (F.past files.new).given (W.stream out.new) (E.stream faults.new)) }
 {
     let mut reader = FileReader::new(engine.alloc, engine.setup.block);
-    all_files(rt, gate, engine, files, &mut reader, out, faults)?;
-    let status = engine.finish(rt, gate, out)?;
+    all_files(rt, engine, files, &mut reader, out, faults)?;
+    let status = engine.finish(rt, out)?;
     Ok(status)
 }
 
-/// Searches files one after the other, as far as that is needed, and writes what the setup's format
-/// asks for to `out`. `faults` gets a line for each name that gives no file and each file whose reading
-/// failed, at once; the others go on. The answer is the exit status: 0 where a line was selected, 1
-/// where none was, and 2 where a name was missed or a reading failed; but with -q 0 where a line was
+/// Searches files one after the other, as far as that is needed, and writes what the setup's format asks for to `out`:
+/// of the lines that the selector selects, which the query finds. `faults` gets a line for each name that gives no file
+/// and each file whose reading failed, at once; the others go on. The answer is the exit status: 0 where a line was
+/// selected, 1 where none was, and 2 where a name was missed or a reading failed; but with -q 0 where a line was
 /// selected. Nothing was asked of the files yet, and at the end all that they list was given.
 ///
 /// A file isn't read further, and with -q no further one is asked for, once nothing that stands behind
 /// changes what is written. Not more of a file is held than two rounds of blocks and what one read gives.
 ///
-/// The gate is told of each search of a block, before and after it, by whoever searches. A block that isn't searched
-/// in a round is the first of its own.
+/// A block that isn't searched in a round is the first of its own.
 ///
 /// # Errors
 ///
-/// `Query` where a pattern is no expression or all ask for too many states; then nothing was asked for
-/// or written. `Sink` where a write failed or took no byte, `TooLong` where a line is longer than the
-/// setup allows or a file has more than 2^62 bytes, `TooManyFiles` at file number 2^32, and
-/// `OutOfMemory` where a request for memory was refused. Where the fault isn't `Sink`, no write failed. `out` and
-/// `faults` got beginnings of what they would have got; at `TooLong` and `TooManyFiles` `out` got all of the output of
-/// the files before the one that is at fault.
+/// `Sink` where a write failed or took no byte, `TooLong` where a line is longer than the setup allows or a file has
+/// more than 2^62 bytes, `TooManyFiles` at file number 2^32, and `OutOfMemory` where a request for memory was refused.
+/// Where the fault isn't `Sink`, no write failed. `out` and `faults` got beginnings of what they would have got; at
+/// `TooLong` and `TooManyFiles` `out` got all of the output of the files before the one that is at fault.
 pub fn run<
     R: Threads + Wait + Clock + Sync,
     A: Allocator + Copy + Send + Sync,
+    Q: BlockSearch<Alloc = A, Scratch: Send> + Sync,
     F: Files,
     W: Sink,
     E: Sink,
-    G: Gate + Sync,
 >(
     rt: &R,
     alloc: A,
-    text: QueryText<A>,
+    query: &Q,
+    selector: Arc<Selector<A>, A>,
     setup: Setup,
     files: &mut F,
     out: &mut W,
     faults: &mut E,
-    gate: &G,
 ) -> Result<u8, RunFault>
-    requires { F.past files.old ≡ nothing_given }
-    ensures ok { IfOk result (λ status. (q : Search) × IsSearchFor text q
-        × RunFinishes q setup (F.finds (F.list files.new)) (F.past files.new) (W.stream out.old)
-        (W.stream out.new) (E.stream faults.old) (E.stream faults.new) status) }
-    ensures err { IfErr result (BreaksOff text setup (F.past files.new) (W.stream out.old)
-        (W.stream out.new) (E.stream faults.old) (E.stream faults.new)) }
+    requires new { F.past files.old ≡ nothing_given }
+    requires finds { FindsLines (Q.seen query.now) (arc_value selector) }
+    ensures outcome { (q : Search) → IsSearchFor (arc_value selector) q → MatchResult result
+        (RunFinishes q setup (F.finds (F.list files.new)) (F.past files.new) (W.stream out.old) (W.stream out.new)
+        (E.stream faults.old) (E.stream faults.new))
+        (BreaksOff q setup (F.past files.new).given (W.stream out.old) (W.stream out.new) (E.stream faults.old)
+        (E.stream faults.new)) }
     ensures same_list { F.list files.new ≡ F.list files.old }
 {
-    let mut engine = begin(alloc, text, setup)?;
-    search_files(rt, gate, &mut engine, files, out, faults)
+    let mut engine = Engine::new(alloc, query, selector, setup)?;
+    search_files(rt, &mut engine, files, out, faults)
 }

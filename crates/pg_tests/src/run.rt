@@ -9,7 +9,7 @@ use pg_base::MemSink;
 use pg_files::{Ending, Listed, MemFiles, MemStore};
 use pg_lines::{Kind, ListFault, PatternList, QueryFault, QueryText};
 use pg_rows::Format;
-use pg_run::{FreeGate, RunFault, Setup, run};
+use pg_search::{FreeGate, RunFault, SearchFault, Setup, run};
 use pg_syntax::{FaultKind, SyntaxFault};
 use pg_walk::{FileKind, MemTree, Node, Scope};
 use refusing::Refusing;
@@ -198,7 +198,7 @@ fn answer<R: Threads + Wait + Clock + Sync, A: Allocator + Copy + Send + Sync>(
     files: &mut MemFiles<'_>,
     out: &mut MemSink,
     faults: &mut MemSink,
-) -> Result<u8, RunFault>
+) -> Result<u8, SearchFault>
     requires { (files.old.walk.asked.items ≡ []) × (files.old.done ≡ false) }
 {
     let text = text_of(heap, case.letters, case.pattern)?;
@@ -217,7 +217,7 @@ fn answer<R: Threads + Wait + Clock + Sync, A: Allocator + Copy + Send + Sync>(
 
 /// What a run answered, wrote and told.
 struct Outcome {
-    answer: Result<u8, RunFault>,
+    answer: Result<u8, SearchFault>,
     out: MemSink,
     faults: MemSink,
 }
@@ -279,7 +279,7 @@ struct Row<'a> {
 #[derive(Clone, Copy)]
 struct Expected<'a> {
     case: Case<'a>,
-    answer: Result<u8, RunFault>,
+    answer: Result<u8, SearchFault>,
     output: &'a [u8],
     told: &'static str,
 }
@@ -300,7 +300,7 @@ fn push<'a>(rt: &impl Abort, cases: &mut Vec<Expected<'a>>, case: Expected<'a>) 
 fn failing<'a>(case: Case<'a>, output: &'a [u8]) -> Expected<'a> {
     Expected {
         case,
-        answer: Err(RunFault::Sink),
+        answer: Err(SearchFault::Run(RunFault::Sink)),
         output,
         told: "",
     }
@@ -532,7 +532,7 @@ const TOLD: &str = "pargrep: g: cannot open\npargrep: d: cannot list\n";
 /// Whether a run for which memory wants has written and told beginnings, where a request was refused, and any other one
 /// all of it.
 fn is_refused_rightly(found: &Outcome, heap: &Refusing, whole: Expected<'_>) -> bool {
-    if found.answer != Err(RunFault::OutOfMemory) {
+    if found.answer != Err(SearchFault::Run(RunFault::OutOfMemory)) {
         return whole.is(found);
     }
     heap.has_refused()
@@ -624,7 +624,7 @@ fn each_request_may_be_refused(rt: HostRuntime) {
 }
 
 /// What is wrong with the second of two patterns, in which an escape lacks its byte.
-const FAULT: RunFault = RunFault::Query(QueryFault::Syntax(ListFault {
+const FAULT: SearchFault = SearchFault::Query(QueryFault::Syntax(ListFault {
     pattern: 2,
     fault: SyntaxFault {
         kind: FaultKind::TrailingBackslash,
@@ -650,7 +650,7 @@ fn a_fault_is_told_for_want_of_no_memory(rt: HostRuntime) {
 fn ends_with<'a>(
     file: &'a [u8],
     workers: u32,
-    answer: Result<u8, RunFault>,
+    answer: Result<u8, SearchFault>,
     output: &'a [u8],
 ) -> Expected<'a>
     requires { workers ≤ 64 }
@@ -668,7 +668,7 @@ fn long_lines_end_a_run_behind_its_rows(rt: HostRuntime) {
     let mut file = [b'a'; 103];
     file[0] = b'b';
     file[1] = b'\n';
-    let too_long = Err(RunFault::TooLong);
+    let too_long = Err(SearchFault::Run(RunFault::TooLong));
     let cases = [
         ends_with(&file[3..], 0, Ok(1), b""),
         ends_with(&file[2..], 0, too_long, b""),

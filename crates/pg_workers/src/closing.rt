@@ -18,7 +18,7 @@ use std::sync::Arc;
 type Parted<A> = (Vec<Seat, A>, Vec<PutPass<BlockResult<A>, A>, A>);
 
 /// Takes all workers apart. Their scratches are given back.
-fn part<A: Allocator + Copy, C: Drop, Q: BlockSearch<Arc<Block<A>, A>, C, BlockResult<A>>>(
+fn part<A: Allocator + Copy, C: Drop, Q: BlockSearch<Alloc = A, Scratch = C>>(
     alloc: A,
     round: Round<'_, Q, A>,
     mut workers: Vec<Worker<A, C>, A>,
@@ -51,11 +51,7 @@ fn part<A: Allocator + Copy, C: Drop, Q: BlockSearch<Arc<Block<A>, A>, C, BlockR
 /// # Errors
 ///
 /// Only where a request for memory was refused. Results and scratches may be lost then.
-pub fn close_round<
-    A: Allocator + Copy,
-    C: Drop,
-    Q: BlockSearch<Arc<Block<A>, A>, C, BlockResult<A>>,
->(
+pub fn close_round<A: Allocator + Copy, C: Drop, Q: BlockSearch<Alloc = A, Scratch = C>>(
     alloc: A,
     query: &Q,
     blocks: &[Arc<Block<A>, A>],

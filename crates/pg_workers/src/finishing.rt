@@ -11,7 +11,7 @@ use std::alloc::{AllocError, Allocator};
 use std::sync::{Arc, Wait};
 
 /// Searches the block that each worker left unfinished.
-fn finish_all<R: Wait, A: Allocator, C: Drop, Q: BlockSearch<Arc<Block<A>, A>, C, BlockResult<A>>>(
+fn finish_all<R: Wait, A: Allocator, C: Drop, Q: BlockSearch<Alloc = A, Scratch = C>>(
     rt: &R,
     round: Round<'_, Q, A>,
     workers: &mut Vec<Worker<A, C>, A>,
@@ -34,12 +34,11 @@ fn finish_all<R: Wait, A: Allocator, C: Drop, Q: BlockSearch<Arc<Block<A>, A>, C
 /// # Errors
 ///
 /// Only where a request for memory was refused. What was put until then is the results of blocks.
-pub fn search_rest<
-    R: Wait,
-    A: Allocator,
-    C: Drop,
-    Q: BlockSearch<Arc<Block<A>, A>, C, BlockResult<A>>,
->(rt: &R, round: Round<'_, Q, A>, workers: &mut Vec<Worker<A, C>, A>) -> Result<(), AllocError>
+pub fn search_rest<R: Wait, A: Allocator, C: Drop, Q: BlockSearch<Alloc = A, Scratch = C>>(
+    rt: &R,
+    round: Round<'_, Q, A>,
+    workers: &mut Vec<Worker<A, C>, A>,
+) -> Result<(), AllocError>
     requires ready { IsReady (task_of Q.seen round) }
     requires worked { All (HasWorked (task_of Q.seen round)) workers.old.items × (0 < vec_len workers.old) }
     ensures finished { OnOk result ((vec_len workers.new ≡ vec_len workers.old)

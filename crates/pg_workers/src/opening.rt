@@ -24,7 +24,7 @@ pub struct Opened<A: Allocator, C: Drop> {
 }
 
 /// A worker for each seat, each with a scratch of those given.
-fn gather<A: Allocator + Copy, C: Drop, Q: BlockSearch<Arc<Block<A>, A>, C, BlockResult<A>>>(
+fn gather<A: Allocator + Copy, C: Drop, Q: BlockSearch<Alloc = A, Scratch = C>>(
     alloc: A,
     round: Round<'_, Q, A>,
     mut seats: Vec<Seat, A>,
@@ -64,11 +64,7 @@ fn gather<A: Allocator + Copy, C: Drop, Q: BlockSearch<Arc<Block<A>, A>, C, Bloc
 /// # Errors
 ///
 /// Only where a request for memory was refused. Scratches may be lost then.
-pub fn open_round<
-    A: Allocator + Copy,
-    C: Drop,
-    Q: BlockSearch<Arc<Block<A>, A>, C, BlockResult<A>>,
->(
+pub fn open_round<A: Allocator + Copy, C: Drop, Q: BlockSearch<Alloc = A, Scratch = C>>(
     alloc: A,
     query: &Q,
     blocks: &[Arc<Block<A>, A>],

@@ -12,9 +12,8 @@ use std::sync::atomic::{AtomicBool, Ordering};
 use std::sync::{Arc, Wait};
 use std::thread::{Promise, PromisedHandle, Scope, Threads};
 
-impl<'a, A: Allocator, C: Drop, Q: BlockSearch<Arc<Block<A>, A>, C, BlockResult<A>>> Promise<
-    Worker<A, C>,
-> for Round<'a, Q, A> {
+impl<'a, A: Allocator, C: Drop, Q: BlockSearch<Alloc = A, Scratch = C>> Promise<Worker<A, C>>
+    for Round<'a, Q, A> {
     ghost use Rattle.pg_workers.specs.Workers.{task_of, HasWorked};
 
     ghost kept_by = { λ round worker. HasWorked (task_of Q.seen round) worker };
@@ -22,23 +21,18 @@ impl<'a, A: Allocator, C: Drop, Q: BlockSearch<Arc<Block<A>, A>, C, BlockResult<
 
 /// A worker in a thread of its own, or what came of it where none could be made.
 #[derive(Drop)]
-pub(crate) enum Started<
-    'a,
-    A: Allocator,
-    C: Drop,
-    Q: BlockSearch<Arc<Block<A>, A>, C, BlockResult<A>>,
-> {
+pub(crate) enum Started<'a, A: Allocator, C: Drop, Q: BlockSearch<Alloc = A, Scratch = C>> {
     Running(PromisedHandle<Worker<A, C>, Round<'a, Q, A>>),
     Ended(Worker<A, C>),
 }
 
 /// Searches, unless a thread was refused: then the worker comes back as it is.
-fn search_unless<
-    R: Wait,
-    A: Allocator,
-    C: Drop,
-    Q: BlockSearch<Arc<Block<A>, A>, C, BlockResult<A>>,
->(rt: &R, round: Round<'_, Q, A>, mut worker: Worker<A, C>, refused: &AtomicBool) -> Worker<A, C>
+fn search_unless<R: Wait, A: Allocator, C: Drop, Q: BlockSearch<Alloc = A, Scratch = C>>(
+    rt: &R,
+    round: Round<'_, Q, A>,
+    mut worker: Worker<A, C>,
+    refused: &AtomicBool,
+) -> Worker<A, C>
     requires ready { IsReady (task_of Q.seen round) }
     requires finished { HasFinished (task_of Q.seen round) worker }
     ensures { HasWorked (task_of Q.seen round.entry) result }
@@ -57,7 +51,7 @@ fn start<
     R: Threads + Wait + Sync,
     A: Allocator + Send + Sync,
     C: Drop + Send + 'e,
-    Q: BlockSearch<Arc<Block<A>, A>, C, BlockResult<A>> + Sync,
+    Q: BlockSearch<Alloc = A, Scratch = C> + Sync,
 >(
     scope: &'s Scope<'s, &'e ()>,
     rt: &'e R,
@@ -109,7 +103,7 @@ pub(crate) fn start_all<
     R: Threads + Wait + Sync,
     A: Allocator + Copy + Send + Sync,
     C: Drop + Send + 'e,
-    Q: BlockSearch<Arc<Block<A>, A>, C, BlockResult<A>> + Sync,
+    Q: BlockSearch<Alloc = A, Scratch = C> + Sync,
 >(
     scope: &'s Scope<'s, &'e ()>,
     rt: &'e R,
@@ -143,7 +137,7 @@ pub(crate) fn join_all<
     R: Threads,
     A: Allocator,
     C: Drop,
-    Q: BlockSearch<Arc<Block<A>, A>, C, BlockResult<A>>,
+    Q: BlockSearch<Alloc = A, Scratch = C>,
 >(
     rt: &R,
     round: Round<'e, Q, A>,

@@ -56,7 +56,7 @@ impl<A: Allocator, C: Drop> Drop for Worker<A, C> {
 }
 
 /// Searches the block of a number below the board's limit. The scratch fits the round's query.
-fn search_number<A: Allocator, C, Q: BlockSearch<Arc<Block<A>, A>, C, BlockResult<A>>>(
+fn search_number<A: Allocator, C, Q: BlockSearch<Alloc = A, Scratch = C>>(
     round: Round<'_, Q, A>,
     scratch: &mut C,
     number: u32,
@@ -73,7 +73,7 @@ fn search_number<A: Allocator, C, Q: BlockSearch<Arc<Block<A>, A>, C, BlockResul
 }
 
 /// Searches the block of a number below the board's limit, and puts its result.
-fn search_one<R: Wait, A: Allocator, C, Q: BlockSearch<Arc<Block<A>, A>, C, BlockResult<A>>>(
+fn search_one<R: Wait, A: Allocator, C, Q: BlockSearch<Alloc = A, Scratch = C>>(
     rt: &R,
     round: Round<'_, Q, A>,
     scratch: &mut C,
@@ -102,7 +102,7 @@ fn search_one<R: Wait, A: Allocator, C, Q: BlockSearch<Arc<Block<A>, A>, C, Bloc
 ///
 /// Only where a request for memory was refused: the block of the number that was drawn last. Its result was not put,
 /// while all before it were.
-pub fn work<R: Wait, A: Allocator, C, Q: BlockSearch<Arc<Block<A>, A>, C, BlockResult<A>>>(
+pub fn work<R: Wait, A: Allocator, C, Q: BlockSearch<Alloc = A, Scratch = C>>(
     rt: &R,
     round: Round<'_, Q, A>,
     scratch: &mut C,
@@ -132,7 +132,7 @@ pub fn work<R: Wait, A: Allocator, C, Q: BlockSearch<Arc<Block<A>, A>, C, BlockR
 
 /// Searches until no number is left, and the worker's seat is spent. Where memory is refused before that, the worker
 /// leaves a block unfinished.
-pub(crate) fn search<R: Wait, A: Allocator, C, Q: BlockSearch<Arc<Block<A>, A>, C, BlockResult<A>>>(
+pub(crate) fn search<R: Wait, A: Allocator, C, Q: BlockSearch<Alloc = A, Scratch = C>>(
     rt: &R,
     round: Round<'_, Q, A>,
     worker: &mut Worker<A, C>,
@@ -155,7 +155,7 @@ pub(crate) fn search<R: Wait, A: Allocator, C, Q: BlockSearch<Arc<Block<A>, A>, 
 }
 
 /// Searches the block that a worker left unfinished, if there is one, and puts its result by the worker's pass.
-pub(crate) fn finish<R: Wait, A: Allocator, C, Q: BlockSearch<Arc<Block<A>, A>, C, BlockResult<A>>>(
+pub(crate) fn finish<R: Wait, A: Allocator, C, Q: BlockSearch<Alloc = A, Scratch = C>>(
     rt: &R,
     round: Round<'_, Q, A>,
     worker: &mut Worker<A, C>,

@@ -52,7 +52,7 @@ fn work_together<
     R: Threads + Wait + Sync,
     A: Allocator + Copy + Send + Sync,
     C: Drop + Send + 'e,
-    Q: BlockSearch<Arc<Block<A>, A>, C, BlockResult<A>> + Sync,
+    Q: BlockSearch<Alloc = A, Scratch = C> + Sync,
 >(
     scope: &'s Scope<'s, &'e ()>,
     rt: &'e R,
@@ -81,7 +81,7 @@ pub fn run_workers<
     R: Threads + Wait + Sync,
     A: Allocator + Copy + Send + Sync,
     C: Drop + Send,
-    Q: BlockSearch<Arc<Block<A>, A>, C, BlockResult<A>> + Sync,
+    Q: BlockSearch<Alloc = A, Scratch = C> + Sync,
 >(
     rt: &R,
     alloc: A,

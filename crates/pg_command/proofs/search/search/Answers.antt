@@ -4,7 +4,8 @@ use Rattle.pg_syntax.specs.Slices.{bytes_of}
 use Rattle.pg_walk.specs.Scopes.{scope_of}
 use Rattle.pg_files.specs.Listed.{asked_for, files_past, sought}
 use Rattle.pg_base.specs.Sink.{Stream}
-use Rattle.pg_run.specs.Outcome.{BreaksOff, IsSearchFor}
+use Rattle.pg_run.specs.Outcome.{IsSearchFor}
+use Rattle.pg_search.specs.Outcome.{SearchBreaksOff}
 use Rattle.pg_request.specs.Asked.{asked_of, glob_files, input_name, scope_for, text_with}
 use Rattle.pg_words.specs.Filters.{filters_of}
 use Rattle.pg_command.specs.Answers.{Fails, HasReadFor}
@@ -53,17 +54,17 @@ returns-clause-fault g c =
     g.E.Sink.stream c.run.new.faults in
     let P : Fault → Type 0 = λ fault.
     Fails (tells tree) (answers tree) asked past past' out out' err err' fault in
-    subst P (sym c.fault_of_run.ensures) (inr (inr (inr (record {
+    subst P (sym c.fault_of_search.ensures) (inr (inr (inr (record {
       work = work_of tells answers tree asked globs between at (c.in-Err.ensures.same_list ∙ first) past past'
           contents read files.walk.asked.items files.begins c.in_ok-setup.setup listed.setup files.done files.all_asked
           files.are_opened files.are_spared refl;
-      run = c.in-Err.fault;
+      cause = c.in-Err.fault;
       is = refl;
-      breaks = subst (λ t. BreaksOff t c.in_ok-setup.setup
+      breaks = subst (λ t. SearchBreaksOff t c.in_ok-setup.setup
           (files_past (input_name asked) files.done (asked_for files.walk.asked.items) past') out out' err err'
           c.in-Err.fault)
-          text (breaks_so tells answers tree asked globs between at (c.in-Err.ensures.same_list ∙ first) _
-          c.in_ok-setup.setup files.done (asked_for files.walk.asked.items) past' out out' err err'
+          text (breaks_so tells answers tree asked globs between at (c.in-Err.ensures.same_list ∙ first)
+          c.in_ok-text.text c.in_ok-setup.setup files.done (asked_for files.walk.asked.items) past' out out' err err'
           c.in-Err.fault c.in-Err.ensures.err);
     }))))
 

@@ -1,8 +1,7 @@
-use Rattle.std.proofs.Common.{◌∙◌, List, length, ap, arith, subst, sym}
+use Rattle.std.proofs.Common.{◌∙◌, length, ap, arith, subst, sym}
 use Rattle.std.proofs.lemmas.List.{length_push}
 use Rattle.std.proofs.lemmas.List.Elements.{All-push}
-use Rattle.pg_match.specs.Machines.{Room, Fits}
-use Rattle.pg_run.specs.Scratches.{AreScratches}
+use Rattle.pg_run.specs.Searches.{AreScratches}
 use Rattle.pg_run.proofs.engine.add_scratch.Goals as goal
 
 pub returns-clause-more : goal.returns-clause-more
@@ -11,11 +10,10 @@ returns-clause-more g c =
 
 pub returns-clause-scratches : goal.returns-clause-scratches
 returns-clause-scratches g c =
-    let machine = c.args.query.now.machine in
+    let view = g.Q.BlockSearch.seen c.args.query.now in
     let scratch = c.in_ok-scratch.scratch in
     let old = c.args.scratches.now.items in
-    let P : List Room → Type 0 = λ xs. AreScratches 65 machine xs in
-    subst P (sym c.in_ok-push.ensures.items) (
+    subst (AreScratches view 65) (sym c.in_ok-push.ensures.items) (
       omega (arith, length_push old scratch, c.requires.0),
-      All-push (λ s. Fits s machine) old scratch c.requires.1 c.in_ok-scratch.ensures,
+      All-push view.fits old scratch c.requires.1 c.in_ok-scratch.ensures.fits,
     )

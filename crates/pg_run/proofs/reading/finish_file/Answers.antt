@@ -1,8 +1,8 @@
 use Rattle.pg_run.proofs.HoldLemmas.{fails_by}
 use Rattle.pg_run.proofs.reading.finish_file.Goals as goal
 
-pub search_last-requires-clause-last : goal.search_last-requires-clause-last
-search_last-requires-clause-last g c κs within = c.requires.last
+pub search_last-requires : goal.search_last-requires
+search_last-requires g c = record { last = c.requires.last }
 
 pub returns-in_err-search_last-clause-outcome : goal.returns-in_err-search_last-clause-outcome
 returns-in_err-search_last-clause-outcome g c = λ aim given h.

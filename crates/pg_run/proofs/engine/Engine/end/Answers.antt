@@ -12,4 +12,11 @@ returns g c = λ aim steps out ready.
 pub invariant_of-self : goal.invariant_of-self
 invariant_of-self g c =
     let s = c.args.self.now in
-    record { fits = s.fits; scratches_fit = s.scratches_fit; endless = s.endless; at_once = s.at_once; few = s.few }
+    record {
+      fits = s.fits;
+      few_scratches = s.few_scratches;
+      all_fit = s.all_fit;
+      endless = s.endless;
+      at_once = s.at_once;
+      few = s.few;
+    }

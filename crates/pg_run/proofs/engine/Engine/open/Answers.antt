@@ -20,9 +20,23 @@ returns-in_err-open g c = λ aim steps out ready. IfOk-from_err c.from_residual.
 pub invariant_of-self : goal.invariant_of-self
 invariant_of-self g c =
     let s = c.args.self.now in
-    record { fits = s.fits; scratches_fit = s.scratches_fit; endless = s.endless; at_once = s.at_once; few = s.few }
+    record {
+      fits = s.fits;
+      few_scratches = s.few_scratches;
+      all_fit = s.all_fit;
+      endless = s.endless;
+      at_once = s.at_once;
+      few = s.few;
+    }
 
 pub invariant_of-self-2 : goal.invariant_of-self-2
 invariant_of-self-2 g c =
     let s = c.args.self.now in
-    record { fits = s.fits; scratches_fit = s.scratches_fit; endless = s.endless; at_once = s.at_once; few = s.few }
+    record {
+      fits = s.fits;
+      few_scratches = s.few_scratches;
+      all_fit = s.all_fit;
+      endless = s.endless;
+      at_once = s.at_once;
+      few = s.few;
+    }

@@ -2,12 +2,10 @@ use Rattle.std.proofs.Common.{◌≡◌, ◌<◌, ◌≤◌, ◌∙◌, ℕ, ap,
 use Rattle.std.specs.List.{All}
 use Rattle.std.specs.Arc.{arc_value}
 use Rattle.std.specs.declared.sync.Arc.{Arc}
-use Rattle.pg_match.specs.Machines.{Room}
 use Rattle.pg_blocks.specs.Blocks.{BlockData}
 use Rattle.pg_seq.specs.Standing.{IsAfter}
-use Rattle.pg_run.specs.Scratches.{AreScratches}
 use Rattle.pg_run.specs.Holding.{past_of, format_of}
-use Rattle.pg_run.specs.Searches.{HasShortLines, IsFoundIn}
+use Rattle.pg_run.specs.Searches.{AreScratches}
 use Rattle.pg_round.specs.Receipts.{HasRound}
 use Rattle.pg_round.proofs.ReadingLemmas.{gone_on_none}
 use Rattle.pg_run.proofs.HoldLemmas.{broke_now, ok_of_err, fails_by}
@@ -16,10 +14,9 @@ use Rattle.pg_run.proofs.engine.Engine.search_round.Goals as goal
 
 pub search_round-requires-clause-may : goal.search_round-requires-clause-may
 search_round-requires-clause-may g c κs within =
-    let h = c.requires.holds.2 in
-    let text = c.args.self.now.query.text in
-    let S : List (Arc BlockData g.row.A.Denot) → Type 0 = λ xs. All (HasShortLines text) xs in
-    subst S (sym c.deref.ensures.value) (short_round h text h.same)
+    let view = g.Q.BlockSearch.seen c.args.self.now.query.now in
+    let S : List (Arc BlockData g.row.A.Denot) → Type 0 = λ xs. All view.may xs in
+    subst S (sym c.deref.ensures.value) (short_round c.requires.holds.2)
 
 pub returns-in_err-equip-clause-empties : goal.returns-in_err-equip-clause-empties
 returns-in_err-equip-clause-empties g c = record {
@@ -52,11 +49,11 @@ returns-clause-empties g c = record {
   outcome = λ aim steps h.
       let out' = g.W.Sink.stream c.search_round.new.out in
       let past = past_of aim.query (format_of aim) h.events h.written in
-      let text = c.args.self.now.query.text in
+      let view = g.Q.BlockSearch.seen c.args.self.now.query.now in
       let R : List (Arc BlockData g.row.A.Denot) → Type 0 =
-      λ xs. HasRound (IsAfter c.search_round.new.collector) (IsFoundIn text) xs past
+      λ xs. HasRound (IsAfter c.search_round.new.collector) view.finds xs past
       (g.W.Sink.stream c.args.out.now).taken out'.taken in
-      round_done h _ out' h.same h.set h.count (ap (λ xs. map arc_value xs) c.clear.ensures.items) text h.same
+      round_done h _ out' h.same h.set h.count (ap (λ xs. map arc_value xs) c.clear.ensures.items)
       (subst R c.deref.ensures.value (c.in_ok-search_round.ensures.took.outcome past h.stands refl (safe_now h)))
       c.in_ok-search_round.ensures.took.calm;
 }
@@ -68,7 +65,14 @@ search_round-requires-clause-fits g c κs within = λ k d below.
 pub invariant_of-self : goal.invariant_of-self
 invariant_of-self g c =
     let s = c.args.self.now in
-    record { fits = s.fits; scratches_fit = s.scratches_fit; endless = s.endless; at_once = s.at_once; few = s.few }
+    record {
+      fits = s.fits;
+      few_scratches = s.few_scratches;
+      all_fit = s.all_fit;
+      endless = s.endless;
+      at_once = s.at_once;
+      few = s.few;
+    }
 
 pub invariant_of-self-in-Break-1 : goal.invariant_of-self-in-Break-1
 invariant_of-self-in-Break-1 g c =
@@ -76,7 +80,8 @@ invariant_of-self-in-Break-1 g c =
     let none = ap (λ v. v.items) c.replace-scratches.ensures.after ∙ c.new.ensures.items in
     record {
       fits = engine.fits;
-      scratches_fit = (omega (arith, ap length none), λ k d below. absurd (omega (arith, ap length none, below)));
+      few_scratches = omega (arith, ap length none);
+      all_fit = λ k d below. absurd (omega (arith, ap length none, below));
       endless = engine.endless;
       at_once = engine.at_once;
       few = engine.few;
@@ -88,7 +93,8 @@ invariant_of-self-in-Break-branch-2 g c =
     let none = ap (λ v. v.items) c.replace-scratches.ensures.after ∙ c.new.ensures.items in
     record {
       fits = engine.fits;
-      scratches_fit = (omega (arith, ap length none), λ k d below. absurd (omega (arith, ap length none, below)));
+      few_scratches = omega (arith, ap length none);
+      all_fit = λ k d below. absurd (omega (arith, ap length none, below));
       endless = engine.endless;
       at_once = engine.at_once;
       few = engine.few;
@@ -100,7 +106,8 @@ invariant_of-self-2 g c =
     let back = c.in_ok-search_round.ensures.scratches in
     record {
       fits = engine.fits;
-      scratches_fit = (omega (arith, back.0, c.in_ok-equip.ensures.scratches.0), back.1);
+      few_scratches = omega (arith, back.0, c.in_ok-equip.ensures.scratches.0);
+      all_fit = back.1;
       endless = engine.endless;
       at_once = λ e. c.clear.ensures.items;
       few = omega (arith, ap length c.clear.ensures.items);
@@ -117,8 +124,9 @@ few_scratches len scratches same few = omega arith
 
 pub equip-requires-clause-scratches : goal.equip-requires-clause-scratches
 equip-requires-clause-scratches g c =
-    let F : List Room → Type 0 = λ xs. AreScratches 65 c.args.self.now.query.machine xs in
-    subst F (sym (ap (λ v. v.items) c.replace-scratches.ensures.value)) c.args.self.now.scratches_fit
+    let engine = c.args.self.now in
+    subst (AreScratches (g.Q.BlockSearch.seen engine.query.now) 65)
+    (sym (ap (λ v. v.items) c.replace-scratches.ensures.value)) (engine.few_scratches, engine.all_fit)
 
 pub search_round-requires-clause-few : goal.search_round-requires-clause-few
 search_round-requires-clause-few g c κs within =

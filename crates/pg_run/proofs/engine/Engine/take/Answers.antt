@@ -22,9 +22,8 @@ keep-requires g c =
       planned past (Announces c.args.block),
       subst M b (c.in_ok-announce.ensures.ok past h.stands may),
       is_first h c.args.block m c.in_ok-found.found
-          (c.in_ok-found.ensures.found
-          ∙ (ap (λ x. record { query = c.args.self.now.query.text; block = x }) b
-          ∙ ap (λ x. record { query = x; block = c.args.block }) h.same)),
+          (h.same.0.finds c.in_ok-block.block c.in_ok-found.found c.in_ok-found.ensures.found
+          ∙ ap (λ x. record { query = aim.query.text; block = x }) b),
     )
 
 pub returns-clause-ok : goal.returns-clause-ok
@@ -38,9 +37,8 @@ returns-clause-ok g c = λ aim steps out ready.
     let may = subst F (sym b) (may_past h (Announces c.args.block) m) in
     let middle = subst M b (c.in_ok-announce.ensures.ok past h.stands may) in
     let found : c.in_ok-found.found ≡ record { query = aim.query.text; block = c.args.block } =
-    c.in_ok-found.ensures.found
-    ∙ (ap (λ x. record { query = c.args.self.now.query.text; block = x }) b
-    ∙ ap (λ x. record { query = x; block = c.args.block }) h.same) in
+    h.same.0.finds c.in_ok-block.block c.in_ok-found.found c.in_ok-found.ensures.found
+    ∙ ap (λ x. record { query = aim.query.text; block = x }) b in
     let none = ap (λ xs. map arc_value xs) (c.args.self.now.at_once c.requires.at_once) in
     holds_block h _ c.args.block c.in_ok-found.found m h.same h.set h.count none none found
     (c.keep.ensures (planned past (Announces c.args.block)) middle
