@@ -2,8 +2,8 @@
 use Rattle.std.proofs.Common.{◌≡◌, ℕ, ◌+◌, List, [], ◌++◌, append-nil, append_assoc, codes, refl, replicate}
 use Rattle.std.specs.Prelude.{slice_index}
 use Rattle.std.specs.Fmt.{decimal}
-use Rattle.pg_syntax.specs.FaultTexts.{kind_text}
-use Rattle.pg_syntax.specs.declared.fault.ListFault.{ListFault}
+use Rattle.pg_grammar.specs.FaultTexts.{kind_text}
+use Rattle.pg_grammar.specs.declared.fault.ListFault.{ListFault}
 use Rattle.pg_command.specs.Shown.{advice, shown_lines}
 use Rattle.pg_command.specs.Told.{pattern_line}
 

@@ -2,9 +2,9 @@
 use Rattle.std.specs.Prelude.{ℕ, ◌==◌, ◌+◌, ◌-◌, nat_le, Bool, ◌&&◌, ◌||◌, if◌then◌else◌, List, [], ◌++◌, codes, length}
 use Rattle.std.specs.Prelude.{Option, Some, None, option_and_then, replicate, slice_get, slice_index}
 use Rattle.std.specs.List.{list_all, list_any}
-use Rattle.pg_syntax.specs.declared.fault.FaultKind.{FaultKind}
-use Rattle.pg_syntax.specs.declared.fault.FaultKind.TheVariants.{BadEscape, BadInterval}
-use Rattle.pg_syntax.specs.declared.fault.ListFault.{ListFault}
+use Rattle.pg_grammar.specs.declared.fault.FaultKind.{FaultKind}
+use Rattle.pg_grammar.specs.declared.fault.FaultKind.TheVariants.{BadEscape, BadInterval}
+use Rattle.pg_grammar.specs.declared.fault.ListFault.{ListFault}
 
 -- a newline separates patterns in the text
 abbrev pub has_newline : List ℕ → Bool

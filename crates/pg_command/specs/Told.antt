@@ -1,8 +1,8 @@
 -- What the program tells on standard error.
 use Rattle.std.specs.Prelude.{◌⊎◌, ℕ, List, ◌++◌, codes, Option, Some, None}
 use Rattle.std.specs.Fmt.{decimal}
-use Rattle.pg_syntax.specs.FaultTexts.{kind_text}
-use Rattle.pg_syntax.specs.declared.fault.ListFault.{ListFault}
+use Rattle.pg_grammar.specs.FaultTexts.{kind_text}
+use Rattle.pg_grammar.specs.declared.fault.ListFault.{ListFault}
 use Rattle.pg_base.specs.Sink.{Stream, WritesAll, WritesPart}
 use Rattle.pg_run.specs.Told.{fault_line as file_line}
 use Rattle.pg_words.specs.Usage.{usage_text}

@@ -1,7 +1,7 @@
 //! What is told of faults.
 ghost use Rattle.std.specs.Prelude.{◌≡◌, ◌++◌, ◌≤◌, codes};
 ghost use Rattle.std.specs.List.{flat_map};
-ghost use Rattle.pg_syntax.specs.Slices.{bytes_of};
+ghost use Rattle.pg_grammar.specs.Slices.{bytes_of};
 ghost use Rattle.pg_run.specs.Told.{fault_line as file_line};
 ghost use Rattle.pg_command.specs.Causes.{fault_of_query, fault_of_run, fault_of_search};
 ghost use Rattle.pg_command.specs.Shown.{shown_lines, shown_text};
@@ -15,7 +15,7 @@ use pg_lines::QueryFault;
 use pg_request::Fault;
 use pg_run::{RunFault, tell};
 use pg_search::SearchFault;
-use pg_syntax::{ListFault, SyntaxFault};
+use pg_grammar::{ListFault, SyntaxFault};
 use std::alloc::Global;
 
 /// The status of a run that met a fault.

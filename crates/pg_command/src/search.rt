@@ -1,7 +1,7 @@
 //! The search that a request asks for, over any files and streams.
 ghost use Rattle.std.specs.Prelude.{◌≡◌, ◌≤◌, ◌^◌, [], false, map, IfOk, IfErr, OnOk};
 ghost use Rattle.std.specs.String.{string_bytes};
-ghost use Rattle.pg_syntax.specs.Slices.{bytes_of};
+ghost use Rattle.pg_grammar.specs.Slices.{bytes_of};
 ghost use Rattle.pg_walk.specs.Scopes.{scope_of};
 ghost use Rattle.pg_request.specs.Asked.{asked_of, has_names, input_name, scope_for, spares_output};
 ghost use Rattle.pg_command.specs.Answers.{AnswersSearch, Fails, IsSetup, Succeeds};

@@ -1,11 +1,11 @@
 //! The pattern of a fault, as it is shown: its text, and what to write instead.
 ghost use Rattle.std.specs.Prelude.{◌≡◌, ◌≤◌, IfSome, option_map, replicate, slice_index, true};
 ghost use Rattle.std.specs.List.{list_all, list_any};
-ghost use Rattle.pg_syntax.specs.Slices.{bytes_of};
+ghost use Rattle.pg_grammar.specs.Slices.{bytes_of};
 ghost use Rattle.pg_command.specs.Shown.{advice, escape_advice, has_newline, interval_advice, is_printable, is_shown};
 ghost use Rattle.pg_command.specs.Shown.{pattern_text, shown_text};
 
-use pg_syntax::{FaultKind, ListFault};
+use pg_grammar::{FaultKind, ListFault};
 
 /// The longest pattern that is shown, in bytes.
 const MAX_SHOWN: usize = 200;

@@ -4,7 +4,7 @@ use Rattle.std.proofs.Common.{List, [], ◌∷◌, sym, ap, ◌∙◌, arith}
 use Rattle.std.specs.List.{Contains, list_any}
 use Rattle.std.proofs.lemmas.Bool.{eq-eqb, cases_Bool, false≢true}
 use Rattle.pg_pattern.specs.Patterns.{Pattern, IsProper}
-use Rattle.pg_syntax.specs.ListResults.{AreSpelled}
+use Rattle.pg_grammar.specs.ListResults.{AreSpelled}
 use Rattle.pg_selection.specs.Search.{Kind}
 
 all_more : (t : Pattern) (ts : List Pattern) → IsProper t → All IsProper ts → All IsProper (t ∷ ts)

@@ -8,9 +8,9 @@ use Rattle.std.proofs.lemmas.Bool.Decides.{nat_tests}
 use Rattle.std.proofs.lemmas.List.{get_or-append-add, get_or_append_left}
 use Rattle.memchr.specs.Find.{OccursAt}
 use Rattle.pg_pattern.specs.Patterns.{Set}
-use Rattle.pg_syntax.specs.Grammar as G
-use Rattle.pg_syntax.specs.Grammar.{Literal, Spells}
-use Rattle.pg_syntax.specs.ListResults.{AreSpelled}
+use Rattle.pg_grammar.specs.Grammar as G
+use Rattle.pg_grammar.specs.Grammar.{Literal, Spells}
+use Rattle.pg_grammar.specs.ListResults.{AreSpelled}
 use Rattle.pg_pattern.specs.Matches.{Match}
 use Rattle.pg_pattern.specs.Bounds.{is_word_byte, MayBegin, MayEnd}
 use Rattle.pg_pattern.specs.Hits.{Matched, Hit, IsNext}

@@ -1,6 +1,6 @@
 -- What a text is compiled to, and why one can't be.
 use Rattle.std.specs.Prelude.{◌<◌, ◌≤◌, List}
-use Rattle.pg_syntax.specs.ListResults.{IsFirstRefused}
+use Rattle.pg_grammar.specs.ListResults.{IsFirstRefused}
 use Rattle.pg_match.specs.Automata.{Nfa}
 use Rattle.pg_match.specs.Machines.{IsMachineOf}
 use Rattle.pg_match.specs.Sizes.{list_size}

@@ -15,8 +15,8 @@ use Rattle.std.proofs.lemmas.List.Elements.{All-append, All-weaker, All-cons, Al
 use Rattle.std.proofs.lemmas.List.Elements.{Contains-append_left, Contains-append_right}
 use Rattle.memchr.specs.Find.{OccursAt}
 use Rattle.pg_pattern.specs.Patterns.{Pattern, Alt}
-use Rattle.pg_syntax.specs.Grammar.{Spells}
-use Rattle.pg_syntax.specs.declared.pattern_list.Kind.TheVariants.{Fixed}
+use Rattle.pg_grammar.specs.Grammar.{Spells}
+use Rattle.pg_grammar.specs.declared.pattern_list.Kind.TheVariants.{Fixed}
 use Rattle.pg_pattern.specs.Matches.{Match}
 use Rattle.pg_pattern.specs.Hits.{Hit, HasHit}
 use Rattle.pg_pattern.specs.declared.bounds.Bounds.{Bounds}

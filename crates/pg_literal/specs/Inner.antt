@@ -1,9 +1,9 @@
 -- What texts of a part of a pattern tell of the whole.
 use Rattle.std.specs.Prelude.{◌≡◌, ℕ, Bool, List, [], ◌∷◌, false}
 use Rattle.std.specs.List.{All}
-use Rattle.pg_syntax.specs.Grammar.{Spells}
+use Rattle.pg_grammar.specs.Grammar.{Spells}
 use Rattle.pg_pattern.specs.Patterns.{Pattern}
-use Rattle.pg_syntax.specs.declared.pattern_list.Kind.TheVariants.{Fixed}
+use Rattle.pg_grammar.specs.declared.pattern_list.Kind.TheVariants.{Fixed}
 use Rattle.pg_pattern.specs.Hits.{HasHit}
 use Rattle.pg_pattern.specs.declared.bounds.Bounds.TheVariants.{Any}
 use Rattle.pg_literal.specs.Literals.{AreNeeded}

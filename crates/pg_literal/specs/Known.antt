@@ -4,8 +4,8 @@ use Rattle.std.specs.Prelude.{Option, Some, IfSome, true}
 use Rattle.std.specs.Prelude.{IsTrue}
 use Rattle.pg_bytes.specs.Sets.{Bytes, one}
 use Rattle.pg_pattern.specs.Patterns.{Pattern, Rep, folded}
-use Rattle.pg_syntax.specs.Grammar.{Spells}
-use Rattle.pg_syntax.specs.declared.pattern_list.Kind.TheVariants.{Fixed}
+use Rattle.pg_grammar.specs.Grammar.{Spells}
+use Rattle.pg_grammar.specs.declared.pattern_list.Kind.TheVariants.{Fixed}
 use Rattle.pg_pattern.specs.Matches.{Match}
 use Rattle.pg_pattern.specs.declared.bounds.Bounds.{Bounds}
 use Rattle.pg_pattern.specs.declared.bounds.Bounds.TheVariants.{Any}

@@ -2,9 +2,9 @@
 ghost use Rattle.std.specs.Prelude.{◌≡◌, ◌<◌, ℕ, List, [], length, map, reverse, true};
 ghost use Rattle.std.specs.Prelude.{IsTrue, IfOk, IfSome, IsSome};
 ghost use Rattle.std.specs.List.{All, AllZip};
-ghost use Rattle.pg_syntax.specs.Grammar.{Spells};
+ghost use Rattle.pg_grammar.specs.Grammar.{Spells};
 ghost use Rattle.pg_pattern.specs.Trees.{pattern};
-ghost use Rattle.pg_syntax.specs.declared.pattern_list.Kind.TheVariants.{Fixed};
+ghost use Rattle.pg_grammar.specs.declared.pattern_list.Kind.TheVariants.{Fixed};
 ghost use Rattle.pg_pattern.specs.declared.bounds.Bounds.TheVariants.{Any};
 ghost use Rattle.pg_literal.specs.Literals.{as_searched, AreNeeded, AreHeads, AreEnough, AreTexts};
 ghost use Rattle.pg_literal.specs.Rows.{row_of, Multiplies};

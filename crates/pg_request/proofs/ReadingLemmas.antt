@@ -4,8 +4,8 @@ use Rattle.std.proofs.Common.{Result, Ok, Err, ap, subst, sym}
 use Rattle.std.specs.Borrow.{Bor}
 use Rattle.std.specs.Result.{IfErr, IsErr, IsErrAnd, OnOk}
 use Rattle.std.proofs.lemmas.Bool.{false≢true}
-use Rattle.pg_syntax.specs.Slices.{bytes_of}
-use Rattle.pg_syntax.proofs.ListLemmas.{texts-more, texts-whole}
+use Rattle.pg_grammar.specs.Slices.{bytes_of}
+use Rattle.pg_grammar.proofs.ListLemmas.{texts-more, texts-whole}
 use Rattle.pg_base.specs.Entries.{Ended}
 use Rattle.pg_files.specs.Given.{Given, File}
 use Rattle.pg_request.specs.Reading.{HasRead, StopsAt, FailsToReadAll}

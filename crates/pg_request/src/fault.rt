@@ -3,7 +3,7 @@ ghost use Rattle.std.specs.Prelude.{◌≡◌};
 ghost use Rattle.pg_request.specs.declared.fault.Fault.TheVariants.{OutOfMemory};
 
 use pg_base::Cause;
-use pg_syntax::ListFault;
+use pg_grammar::ListFault;
 use pg_words::UsageFault;
 use std::alloc::{AllocError, AllocFailed};
 

@@ -1,7 +1,7 @@
 //! The operands of a request, and whether rows have names.
 ghost use Rattle.std.specs.Prelude.{◌≡◌, ◌∷◌, [], codes, false, map, IfOk};
 ghost use Rattle.std.specs.String.{string_bytes};
-ghost use Rattle.pg_syntax.specs.Slices.{bytes_of};
+ghost use Rattle.pg_grammar.specs.Slices.{bytes_of};
 ghost use Rattle.pg_request.specs.Operands.{IsDirectory};
 
 use pg_walk::{FileKind, FileTree, LookFault};

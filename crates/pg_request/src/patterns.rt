@@ -1,7 +1,7 @@
 //! The files of patterns and those of globs.
 ghost use Rattle.std.specs.Prelude.{◌≡◌, ◌<◌, ◌∷◌, List, ℕ, map, option_map, IfErr, IfOk, length};
-ghost use Rattle.pg_syntax.specs.Memory.{patterns_of};
-ghost use Rattle.pg_syntax.specs.Slices.{bytes_of};
+ghost use Rattle.pg_grammar.specs.Memory.{patterns_of};
+ghost use Rattle.pg_grammar.specs.Slices.{bytes_of};
 ghost use Rattle.pg_selection.specs.Search.{ByLine};
 ghost use Rattle.pg_base.specs.Entries.{Ended, Left};
 ghost use Rattle.pg_files.specs.Given.{Given, File};
@@ -12,7 +12,7 @@ ghost use Rattle.pg_request.specs.Reading.{contents_of, FailsToReadAll, HasRead,
 use crate::fault::Fault;
 use pg_base::Cause;
 use pg_files::{OpenFault, ReadFault, STANDARD_INPUT, Store, shown_name};
-use pg_syntax::PatternList;
+use pg_grammar::PatternList;
 use pg_words::FileFilter;
 use std::alloc::{AllocError, Global};
 

@@ -1,12 +1,12 @@
 //! What a request searches for.
 ghost use Rattle.std.specs.Prelude.{◌≡◌, ◌++◌, map, IfOk};
-ghost use Rattle.pg_syntax.specs.Memory.{patterns_of};
-ghost use Rattle.pg_syntax.specs.Slices.{bytes_of};
+ghost use Rattle.pg_grammar.specs.Memory.{patterns_of};
+ghost use Rattle.pg_grammar.specs.Slices.{bytes_of};
 ghost use Rattle.pg_selection.specs.Search.{Split};
 ghost use Rattle.pg_request.specs.Asked.{asked_of, text_with, wants_parts};
 
 use pg_selection::QueryText;
-use pg_syntax::PatternList;
+use pg_grammar::PatternList;
 use pg_words::Request;
 use std::alloc::{AllocError, Global};
 

@@ -4,7 +4,7 @@ ghost use Rattle.pg_glob.specs.Views.{rules};
 ghost use Rattle.pg_walk.specs.Scopes.{scope_of};
 ghost use Rattle.pg_words.specs.Filters.{filter_said, filters_of};
 ghost use Rattle.pg_words.specs.Line.{Filter as Asked};
-ghost use Rattle.pg_syntax.specs.Slices.{bytes_of};
+ghost use Rattle.pg_grammar.specs.Slices.{bytes_of};
 ghost use Rattle.pg_request.specs.Asked.{asked_of, devices_for, directory_rule, file_rules, scope_for, without_slash};
 ghost use Rattle.pg_request.specs.Reading.{contents_of};
 

@@ -2,7 +2,7 @@
 use Rattle.std.proofs.Common.{◌≡◌, Bool, ◌&&◌, ◌==◌, List, [], ◌∷◌, map, refl, ap}
 use Rattle.std.specs.Cmp.Lexicographic.{pointwise}
 use denote.Enum.Bare.{sameb}
-use Rattle.pg_syntax.specs.contracts.pattern_list.Kind.{the_type}
+use Rattle.pg_grammar.specs.contracts.pattern_list.Kind.{the_type}
 use Rattle.pg_selection.specs.Search.{Kind, Basic, Extended, Fixed}
 use Rattle.pg_selection.specs.Same.{kind_number}
 

@@ -5,9 +5,9 @@ use Rattle.std.specs.Cmp.Lexicographic.{pointwise}
 use Rattle.std.proofs.Common.{ap, ap₂, sym, subst, ◌∙◌, arith}
 use Rattle.std.proofs.lemmas.Bool.{false≢true, and_parts, and_from, eqb-true, eq-eqb}
 use mathlib.Core.Bool.{beq}
-use Rattle.pg_syntax.specs.Same.{same_patterns, patterns_equal, equivalence_of}
-pub use Rattle.pg_syntax.specs.Same.{TestsEqual}
-use Rattle.pg_syntax.specs.ListResults.{AreSpelled}
+use Rattle.pg_grammar.specs.Same.{same_patterns, patterns_equal, equivalence_of}
+pub use Rattle.pg_grammar.specs.Same.{TestsEqual}
+use Rattle.pg_grammar.specs.ListResults.{AreSpelled}
 use Rattle.pg_selection.specs.Search.{SearchText, Search, Patterns, Pattern, Kind, Basic, Extended, Fixed}
 use Rattle.pg_selection.specs.Search.{AreTreesOf, HasItsTrees, patterns}
 

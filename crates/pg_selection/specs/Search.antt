@@ -1,10 +1,10 @@
 -- What is searched for, as plain data (XCU grep, OPTIONS).
 use Rattle.std.specs.Prelude.{ℕ, Bool, false, if◌then◌else◌, List}
-pub use Rattle.pg_syntax.specs.declared.pattern_list.Kind.{Kind}
-pub use Rattle.pg_syntax.specs.declared.pattern_list.Kind.TheVariants.{Basic, Extended, Fixed}
-pub use Rattle.pg_syntax.specs.PatternLists.{Patterns, Split, ByLine, patterns}
+pub use Rattle.pg_grammar.specs.declared.pattern_list.Kind.{Kind}
+pub use Rattle.pg_grammar.specs.declared.pattern_list.Kind.TheVariants.{Basic, Extended, Fixed}
+pub use Rattle.pg_grammar.specs.PatternLists.{Patterns, Split, ByLine, patterns}
 pub use Rattle.pg_pattern.specs.Patterns.{Pattern}
-use Rattle.pg_syntax.specs.ListResults.{AreSpelled}
+use Rattle.pg_grammar.specs.ListResults.{AreSpelled}
 pub use Rattle.pg_pattern.specs.declared.bounds.Bounds.{Bounds}
 pub use Rattle.pg_pattern.specs.declared.bounds.Bounds.TheVariants.{Any, Word, Whole}
 

@@ -4,7 +4,7 @@ ghost use Rattle.pg_selection.specs.Search.{HasTrees, bounds_of, terminator_of};
 
 use pg_blocks::NEWLINE;
 use pg_pattern::Bounds;
-use pg_syntax::{Kind, PatternList};
+use pg_grammar::{Kind, PatternList};
 use std::alloc::{Allocator, Global};
 use std::marker::Model;
 
@@ -48,7 +48,7 @@ impl<A: Allocator> Model for QueryText<A> {
 
     ghost Value = { SearchText };
 
-    ghost use Rattle.pg_syntax.specs.Memory.{patterns_of};
+    ghost use Rattle.pg_grammar.specs.Memory.{patterns_of};
 
     ghost view = { λ t. record {
       kind = t.kind;

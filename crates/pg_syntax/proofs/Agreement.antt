@@ -1,12 +1,12 @@
 -- What is spelled is what is read, and a text spells one pattern.
 use Rattle.std.proofs.Common.{ℕ, ◌≡◌, ◌≢◌, ◌≤◌, Bool, List, [], length, Option, Some, None, refl, sym, ap, ◌∙◌, subst}
 use Rattle.pg_pattern.specs.Patterns.{Pattern}
-use Rattle.pg_syntax.specs.Grammar as G
-use Rattle.pg_syntax.specs.Grammar.{Body, Expression, Spells}
+use Rattle.pg_grammar.specs.Grammar as G
+use Rattle.pg_grammar.specs.Grammar.{Body, Expression, Spells}
 use Rattle.pg_syntax.specs.Expressions.{kind_of}
-use Rattle.pg_syntax.specs.declared.token.Syntax.TheVariants as S
+use Rattle.pg_grammar.specs.declared.syntax.Syntax.TheVariants as S
 use Rattle.pg_syntax.specs.Machine.{State, start, whole, next, Completes, done, step}
-use Rattle.pg_syntax.specs.declared.token.Syntax.{Syntax}
+use Rattle.pg_grammar.specs.declared.syntax.Syntax.{Syntax}
 use Rattle.pg_syntax.proofs.Complete.{complete}
 use Rattle.pg_syntax.proofs.Sound.{sound}
 

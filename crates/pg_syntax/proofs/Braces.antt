@@ -1,9 +1,9 @@
 -- Where an interval opens.
 use Rattle.std.proofs.Common.{ℕ, ◌≡◌, List, ◌∷◌, ◌++◌, drop, sym, ap, ◌∙◌}
-use Rattle.pg_syntax.specs.Grammar.{brace}
-use Rattle.pg_syntax.specs.Places.{Stands}
-use Rattle.pg_syntax.specs.declared.token.Syntax.{Syntax}
-use Rattle.pg_syntax.specs.declared.token.Syntax.TheVariants.{Basic, Extended}
+use Rattle.pg_grammar.specs.Grammar.{brace}
+use Rattle.pg_grammar.specs.Places.{Stands}
+use Rattle.pg_grammar.specs.declared.syntax.Syntax.{Syntax}
+use Rattle.pg_grammar.specs.declared.syntax.Syntax.TheVariants.{Basic, Extended}
 
 pub opens-basic : (syntax : Syntax) (text : List ℕ) (at next byte : ℕ) (rest : List ℕ) → syntax ≡ Basic
     → drop at text ≡ 92 ∷ drop next text → drop next text ≡ byte ∷ rest → byte ≡ 123 → Stands text at (brace syntax)

@@ -5,11 +5,11 @@ use Rattle.std.proofs.Common.{get_or, not, drop, arith}
 use Rattle.std.proofs.lemmas.Bool.{eqb-true, false≢true}
 use Rattle.std.proofs.lemmas.Bool.Decides.{nat_tests}
 use Rattle.pg_bytes.specs.Sets.{Bytes, one, between}
-use Rattle.pg_syntax.specs.Brackets.{Element, Single, Enclosed, opens, IsFront, HaveNoRange}
-use Rattle.pg_syntax.specs.Brackets.{OpensBracket, negates}
-use Rattle.pg_syntax.specs.Brackets.{end_point, is_dash, member, only_byte}
+use Rattle.pg_grammar.specs.Brackets.{Element, Single, Enclosed, opens, IsFront, HaveNoRange}
+use Rattle.pg_grammar.specs.Brackets.{OpensBracket, negates}
+use Rattle.pg_grammar.specs.Brackets.{end_point, is_dash, member, only_byte}
 use Rattle.pg_syntax.specs.BracketReading.{element_at, enclosed_at, enclosed_in, until, range_of}
-use Rattle.pg_syntax.specs.Places.{HasRange, IsBadRange}
+use Rattle.pg_grammar.specs.Places.{HasRange, IsBadRange}
 use Rattle.pg_syntax.specs.BracketPlaces.{EndsRange, Holds, GoesOn}
 use Rattle.pg_syntax.specs.BracketViews as V
 use Rattle.pg_syntax.specs.declared.element.Element.{Element as Read}

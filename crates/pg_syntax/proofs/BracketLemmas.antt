@@ -6,12 +6,12 @@ use Rattle.std.proofs.lemmas.Bool.{eqb-true, eq-eqb, ne_eqb, leb-true, false≢t
 use Rattle.std.proofs.lemmas.Bool.Decides.{nat_tests}
 use Rattle.pg_bytes.specs.Sets.{Bytes, empty, union, between, complement}
 use Rattle.pg_pattern.specs.Patterns.{folded}
-use Rattle.pg_syntax.specs.Brackets.{Element, Single, Enclosed, opens, has_end, Inside, member, end_point, is_dash}
-use Rattle.pg_syntax.specs.Brackets.{ranges, Members, negates, IsBracket}
+use Rattle.pg_grammar.specs.Brackets.{Element, Single, Enclosed, opens, has_end, Inside, member, end_point, is_dash}
+use Rattle.pg_grammar.specs.Brackets.{ranges, Members, negates, IsBracket}
 use Rattle.pg_syntax.specs.BracketReading.{Content, with_byte, until, enclosed_in, enclosed_at, Elements, with_element}
 use Rattle.pg_syntax.specs.BracketReading.{inside_at, unite, range_of, Fresh, Held, Ranged, members_of, set_of, same}
 use Rattle.pg_syntax.specs.BracketReading.{bracket}
-use Rattle.pg_syntax.specs.Brackets as B
+use Rattle.pg_grammar.specs.Brackets as B
 use Rattle.pg_syntax.proofs.IntervalLemmas.{chosen, chosen_true, chosen_false, both}
 
 neither : (x y : Bool) → (x || y) ≡ false → (x ≡ false) × (y ≡ false)

@@ -3,7 +3,7 @@ use Rattle.std.proofs.Common.{ℕ, zero, suc, ◌≡◌, ◌<◌, ◌≤◌, ◌
 use Rattle.std.proofs.Common.{length, drop, get_or, Option, Some, None, option_and_then, refl, sym, ap, ◌∙◌, arith}
 use Rattle.std.proofs.lemmas.List.{drop_all}
 use Rattle.pg_bytes.specs.Sets.{Bytes}
-use Rattle.pg_syntax.specs.Brackets.{Element}
+use Rattle.pg_grammar.specs.Brackets.{Element}
 use Rattle.pg_syntax.specs.BracketReading.{Elements, Reading, put, finish, with_element, inside_at, element_at, rest_of}
 use Rattle.pg_syntax.proofs.BracketSteps.{inside_step, inside_close, rest_more, finish_is}
 use Rattle.pg_syntax.proofs.BracketContents.{next}

@@ -5,7 +5,7 @@ use Rattle.std.proofs.Common.{suc, ◌≤◌, leb, eqb, not, ◌&&◌, option_an
 use Rattle.std.proofs.lemmas.Bool.Decides.{nat_tests}
 use Rattle.std.proofs.Math.Path.{fun_ext}
 use Rattle.pg_bytes.specs.Sets.{Bytes, union, empty, between}
-use Rattle.pg_syntax.specs.Brackets.{Element, member, end_point, is_dash, Single, opens}
+use Rattle.pg_grammar.specs.Brackets.{Element, member, end_point, is_dash, Single, opens}
 use Rattle.pg_syntax.specs.BracketReading.{unite, range_of, Mode, Fresh, Held, Dashed, Ranged, Barred, members_of}
 use Rattle.pg_syntax.specs.BracketReading.{Reading, read, add, go, put_in, put, finish_in, finish, Elements}
 use Rattle.pg_syntax.specs.BracketReading.{with_element, inside_at, enclosed_at, element_at, rest_of}

@@ -3,7 +3,7 @@ use Rattle.std.proofs.Common.{ℕ, ◌≡◌, ◌+◌, Bool, true, false, cond, 
 use Rattle.std.proofs.Common.{None, option_and_then, refl, sym, ap, ◌∙◌, arith, length-drop, add-one}
 use Rattle.std.proofs.lemmas.List.{drop-drop}
 use Rattle.pg_bytes.specs.Sets.{Bytes, empty, complement}
-use Rattle.pg_syntax.specs.Brackets.{negates}
+use Rattle.pg_grammar.specs.Brackets.{negates}
 use Rattle.pg_syntax.specs.BracketReading.{Elements, Fresh, members_of, inside_at, set_of, same, unite, bracket, shape}
 use Rattle.pg_syntax.specs.BracketReading.{unread, rest_of, elements_from}
 use Rattle.pg_pattern.specs.Patterns.{folded}

@@ -6,22 +6,22 @@ use Rattle.std.proofs.lemmas.Bool.{eqb-true, eq-eqb, ne_eqb, false≢true}
 use Rattle.std.proofs.lemmas.Bool.Decides.{nat_tests}
 use Rattle.pg_bytes.specs.Sets.{Bytes, one, all}
 use Rattle.pg_pattern.specs.Patterns.{folded}
-use Rattle.pg_syntax.specs.Brackets.{IsBracket}
+use Rattle.pg_grammar.specs.Brackets.{IsBracket}
 use Rattle.pg_syntax.specs.BracketReading.{bracket}
-use Rattle.pg_syntax.specs.Intervals.{IsBounds}
+use Rattle.pg_grammar.specs.Intervals.{IsBounds}
 use Rattle.pg_syntax.specs.IntervalReading.{bounds}
 use Rattle.pg_pattern.specs.Patterns.{Pattern, Set, Begin, End}
 use Rattle.pg_syntax.proofs.BracketLemmas.{bracket_again, bracket_front}
 use Rattle.pg_syntax.proofs.IntervalLemmas.{bounds_again}
-use Rattle.pg_syntax.specs.Grammar as G
-use Rattle.pg_syntax.specs.Grammar.{opening, closing, brace, unbrace, is_escaped, IsOrdinary, Mark, Atom, Item, Piece}
-use Rattle.pg_syntax.specs.Grammar.{Seq, Body, Spells}
+use Rattle.pg_grammar.specs.Grammar as G
+use Rattle.pg_grammar.specs.Grammar.{opening, closing, brace, unbrace, is_escaped, IsOrdinary, Mark, Atom, Item, Piece}
+use Rattle.pg_grammar.specs.Grammar.{Seq, Body, Spells}
 use Rattle.pg_syntax.specs.Machine.{Level, fresh, cat, last, whole, State, start, with_item, with_anchor, Token, Part}
 use Rattle.pg_syntax.specs.Machine.{Anchor, Repeat, Open, Close, Bar, add, opened, popped, barred, grouped, after, ends}
 use Rattle.pg_syntax.specs.Machine.{repeat_token, basic_escape, extended_escape, basic_token, extended_token, token}
 use Rattle.pg_syntax.specs.Machine.{next, Completes, done, step}
-use Rattle.pg_syntax.specs.declared.token.Syntax.{Syntax}
-use Rattle.pg_syntax.specs.declared.token.Syntax.TheVariants.{Basic, Extended}
+use Rattle.pg_grammar.specs.declared.syntax.Syntax.{Syntax}
+use Rattle.pg_grammar.specs.declared.syntax.Syntax.TheVariants.{Basic, Extended}
 
 -- one step
 pub goes : {syntax : Syntax} {fold : Bool} {s s' : State} {t rest : List ℕ} {k : Token} {p : Pattern}

@@ -5,9 +5,9 @@ use Rattle.std.proofs.Common.{subst, append_assoc, arith}
 use Rattle.std.specs.List.{list_all}
 use Rattle.std.proofs.lemmas.Bool.{eqb-true, eq-eqb, ne_eqb, leb-true, false≢true}
 use Rattle.std.proofs.lemmas.Bool.Decides.{nat_tests}
-use Rattle.pg_syntax.specs.Intervals as I
+use Rattle.pg_grammar.specs.Intervals as I
 use Rattle.pg_bytes.specs.Classes.{digit}
-use Rattle.pg_syntax.specs.Intervals.{decimal, IsNumber, IsBounds}
+use Rattle.pg_grammar.specs.Intervals.{decimal, IsNumber, IsBounds}
 use Rattle.pg_syntax.specs.IntervalReading.{number_from, small, number_at, strip, Bounds, closed_by, or_else, upper_at}
 use Rattle.pg_syntax.specs.IntervalReading.{most_at, least_at, bounds}
 

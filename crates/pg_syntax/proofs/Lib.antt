@@ -9,8 +9,6 @@ pub mod Complete
 pub mod Sound
 pub mod Agreement
 pub mod Proper
-pub mod SplitLemmas
-pub mod ListLemmas
 pub mod Braces
 pub mod Literals
 pub mod Onward

@@ -4,10 +4,10 @@ use Rattle.std.proofs.Common.{ap, ◌∙◌, subst, arith}
 use Rattle.std.proofs.lemmas.List.{take_more}
 use Rattle.pg_bytes.specs.Sets.{Bytes, one}
 use Rattle.pg_pattern.specs.Patterns.{Pattern, Empty, Set, Cat, folded}
-use Rattle.pg_syntax.specs.Grammar as G
-use Rattle.pg_syntax.specs.Grammar.{Literal, Spells}
-use Rattle.pg_syntax.specs.Results.{IsSpelled}
-use Rattle.pg_syntax.specs.declared.pattern_list.Kind.TheVariants.{Fixed}
+use Rattle.pg_grammar.specs.Grammar as G
+use Rattle.pg_grammar.specs.Grammar.{Literal, Spells}
+use Rattle.pg_grammar.specs.Results.{IsSpelled}
+use Rattle.pg_grammar.specs.declared.pattern_list.Kind.TheVariants.{Fixed}
 use Rattle.pg_syntax.proofs.Proper.{spelled_proper}
 
 module _ (fold : Bool) where

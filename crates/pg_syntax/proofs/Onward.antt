@@ -7,14 +7,14 @@ use Rattle.pg_bytes.specs.Sets.{Bytes, one, all}
 use Rattle.pg_pattern.specs.Patterns.{Pattern, Set, Begin, End, folded}
 use Rattle.pg_syntax.specs.BracketReading.{bracket}
 use Rattle.pg_syntax.specs.IntervalReading.{bounds}
-use Rattle.pg_syntax.specs.Grammar.{Body, is_escaped, unbrace}
-use Rattle.pg_syntax.specs.Places.{closings, LeavesOpen, LeavesEmpty}
+use Rattle.pg_grammar.specs.Grammar.{Body, is_escaped, unbrace}
+use Rattle.pg_grammar.specs.Places.{closings, LeavesOpen, LeavesEmpty}
 use Rattle.pg_syntax.specs.Machine.{Level, cat, alt, last, whole, State, start, with_item, Token, Part, Anchor, Repeat}
 use Rattle.pg_syntax.specs.Machine.{Open, Close, Bar, add, popped, grouped, after, Found, ends, set_token, repeat_token}
 use Rattle.pg_syntax.specs.Machine.{basic_escape, extended_escape, basic_token, extended_token, token, next, Completes}
 use Rattle.pg_syntax.specs.Machine.{done, step}
-use Rattle.pg_syntax.specs.declared.token.Syntax.{Syntax}
-use Rattle.pg_syntax.specs.declared.token.Syntax.TheVariants.{Basic, Extended}
+use Rattle.pg_grammar.specs.declared.syntax.Syntax.{Syntax}
+use Rattle.pg_grammar.specs.declared.syntax.Syntax.TheVariants.{Basic, Extended}
 use Rattle.pg_syntax.proofs.BracketLemmas.{bracket_again, bracket_takes}
 use Rattle.pg_syntax.proofs.IntervalLemmas.{bounds_again, bounds_take}
 use Rattle.pg_syntax.proofs.Complete.{goes, complete, close_token}

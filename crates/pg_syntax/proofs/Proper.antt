@@ -2,14 +2,14 @@
 use Rattle.std.proofs.Common.{ℕ, ◌≤◌, Bool, List, Option, arith}
 use Rattle.std.specs.Prelude.{IfSome}
 use Rattle.pg_pattern.specs.Patterns.{Pattern, IsProper}
-use Rattle.pg_syntax.specs.Intervals as I
-use Rattle.pg_syntax.specs.Intervals.{IsBounds}
-use Rattle.pg_syntax.specs.Grammar as G
-use Rattle.pg_syntax.specs.Grammar.{Mark, Atom, Item, Piece, Seq, Body, Literal, Expression, Spells}
-use Rattle.pg_syntax.specs.declared.pattern_list.Kind.{Kind}
-use Rattle.pg_syntax.specs.declared.pattern_list.Kind.TheVariants as K
-use Rattle.pg_syntax.specs.declared.token.Syntax.TheVariants as S
-use Rattle.pg_syntax.specs.declared.token.Syntax.{Syntax}
+use Rattle.pg_grammar.specs.Intervals as I
+use Rattle.pg_grammar.specs.Intervals.{IsBounds}
+use Rattle.pg_grammar.specs.Grammar as G
+use Rattle.pg_grammar.specs.Grammar.{Mark, Atom, Item, Piece, Seq, Body, Literal, Expression, Spells}
+use Rattle.pg_grammar.specs.declared.pattern_list.Kind.{Kind}
+use Rattle.pg_grammar.specs.declared.pattern_list.Kind.TheVariants as K
+use Rattle.pg_grammar.specs.declared.syntax.Syntax.TheVariants as S
+use Rattle.pg_grammar.specs.declared.syntax.Syntax.{Syntax}
 
 bounds_proper : {t : List ℕ} {m : ℕ} {n : Option ℕ} → IsBounds t m n → IfSome n (λ n. m ≤ n)
 bounds_proper (I.exactly h) = omega arith

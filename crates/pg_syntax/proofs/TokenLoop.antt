@@ -3,23 +3,23 @@ use Rattle.std.proofs.Common.{ℕ, ◌≡◌, ◌≢◌, ◌<◌, ◌≤◌, ◌
 use Rattle.std.proofs.Common.{drop, Option, Some, None, Err, refl, sym, ap, subst, arith, length-drop}
 use Rattle.std.proofs.lemmas.Bool.{false≢true}
 use Rattle.pg_pattern.specs.Patterns.{Pattern, Empty}
-use Rattle.pg_syntax.specs.Grammar as G
-use Rattle.pg_syntax.specs.Grammar.{Spells, Expression, Body, Mark, opening, closing, brace, unbrace}
+use Rattle.pg_grammar.specs.Grammar as G
+use Rattle.pg_grammar.specs.Grammar.{Spells, Expression, Body, Mark, opening, closing, brace, unbrace}
 use Rattle.pg_syntax.specs.Machine as M
 use Rattle.pg_syntax.proofs.Proper.{spelled_proper}
 use Rattle.pg_syntax.specs.Machine.{State, Token, Level, start, whole, grouped, token, after, next, Completes, done}
 use Rattle.pg_syntax.specs.Machine.{step}
 use Rattle.pg_syntax.proofs.Onward.{Leads, onward, open_end, leaves_open, leaves_empty}
-use Rattle.pg_syntax.specs.Places.{Place, PlaceIn}
-use Rattle.pg_syntax.specs.Results.{IsSpelled, IsRefused, IsFault}
+use Rattle.pg_grammar.specs.Places.{Place, PlaceIn}
+use Rattle.pg_grammar.specs.Results.{IsSpelled, IsRefused, IsFault}
 use Rattle.pg_syntax.specs.Expressions.{kind_of}
 use Rattle.pg_syntax.specs.Tokens.{blame, Applies}
-use Rattle.pg_syntax.specs.declared.token.Syntax.{Syntax}
-use Rattle.pg_syntax.specs.declared.token.Syntax.TheVariants.{Basic, Extended}
-use Rattle.pg_syntax.specs.declared.fault.SyntaxFault.{SyntaxFault}
-use Rattle.pg_syntax.specs.declared.fault.FaultKind.TheVariants.{UnmatchedGroup, EmptyOperand}
-use Rattle.pg_syntax.specs.declared.fault.FaultKind.{FaultKind}
-use Rattle.pg_syntax.specs.declared.token.Syntax.TheVariants as S
+use Rattle.pg_grammar.specs.declared.syntax.Syntax.{Syntax}
+use Rattle.pg_grammar.specs.declared.syntax.Syntax.TheVariants.{Basic, Extended}
+use Rattle.pg_grammar.specs.declared.fault.SyntaxFault.{SyntaxFault}
+use Rattle.pg_grammar.specs.declared.fault.FaultKind.TheVariants.{UnmatchedGroup, EmptyOperand}
+use Rattle.pg_grammar.specs.declared.fault.FaultKind.{FaultKind}
+use Rattle.pg_grammar.specs.declared.syntax.Syntax.TheVariants as S
 use Rattle.pg_syntax.proofs.Complete.{complete}
 use Rattle.pg_syntax.proofs.Agreement.{body_of, stepped, stuck, ended, spelled, read}
 use Rattle.pg_syntax.proofs.Sound.{told}

@@ -1,19 +1,19 @@
 -- What stands where the parts of a bracket are read.
 use Rattle.std.specs.Prelude.{ℕ, ◌≡◌, ◌≢◌, ◌≤◌, ◌<◌, List, [], ◌∷◌, length, drop, Option, Some, None, ◌⊎◌}
-use Rattle.pg_syntax.specs.Places.{Stands, StandsInBracket, HasRange, IsBadRange}
-use Rattle.pg_syntax.specs.Brackets as B
+use Rattle.pg_grammar.specs.Places.{Stands, StandsInBracket, HasRange, IsBadRange}
+use Rattle.pg_grammar.specs.Brackets as B
 use Rattle.pg_syntax.specs.BracketViews.{element}
 use Rattle.pg_syntax.specs.declared.element.Element.{Element}
 use Rattle.pg_syntax.specs.declared.element.Element.TheVariants.{Single, Enclosed}
 use Rattle.pg_syntax.specs.declared.bracket.Mode.{Mode}
 use Rattle.pg_syntax.specs.declared.bracket.Mode.TheVariants.{Fresh, Held, Dashed, Ranged, Barred}
 use Rattle.pg_syntax.specs.declared.bracket.Reading.{Reading}
-use Rattle.pg_syntax.specs.declared.fault.SyntaxFault.{SyntaxFault}
-use Rattle.pg_syntax.specs.declared.fault.FaultKind.{FaultKind}
-use Rattle.pg_syntax.specs.declared.fault.FaultKind.TheVariants.{TrailingBackslash, BadEscape, BackReference}
-use Rattle.pg_syntax.specs.declared.fault.FaultKind.TheVariants.{UnmatchedBracket, BadClass, BadCollating, BadRange}
-use Rattle.pg_syntax.specs.declared.fault.FaultKind.TheVariants.{UnmatchedGroup, BadInterval, NothingToRepeat}
-use Rattle.pg_syntax.specs.declared.fault.FaultKind.TheVariants.{EmptyOperand, TooDeep, OutOfMemory, TooLong}
+use Rattle.pg_grammar.specs.declared.fault.SyntaxFault.{SyntaxFault}
+use Rattle.pg_grammar.specs.declared.fault.FaultKind.{FaultKind}
+use Rattle.pg_grammar.specs.declared.fault.FaultKind.TheVariants.{TrailingBackslash, BadEscape, BackReference}
+use Rattle.pg_grammar.specs.declared.fault.FaultKind.TheVariants.{UnmatchedBracket, BadClass, BadCollating, BadRange}
+use Rattle.pg_grammar.specs.declared.fault.FaultKind.TheVariants.{UnmatchedGroup, BadInterval, NothingToRepeat}
+use Rattle.pg_grammar.specs.declared.fault.FaultKind.TheVariants.{EmptyOperand, TooDeep, OutOfMemory, TooLong}
 
 -- an element stands at this offset
 abbrev pub At : List ℕ → ℕ → Element → Type 0

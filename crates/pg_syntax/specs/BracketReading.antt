@@ -4,7 +4,7 @@ use Rattle.std.specs.Prelude.{ℕ, zero, suc, ◌+◌, ◌-◌, ◌≡◌, ◌<�
 use Rattle.std.specs.Prelude.{◌∷◌, length, drop, slice_index, ◌⊎◌, Option, Some, None, option_and_then, if◌then◌else◌}
 use Rattle.pg_bytes.specs.Sets.{Bytes, empty, between, union, complement}
 use Rattle.pg_pattern.specs.Patterns.{folded}
-use Rattle.pg_syntax.specs.Brackets.{Element, Single, Enclosed, opens, member, end_point, is_dash}
+use Rattle.pg_grammar.specs.Brackets.{Element, Single, Enclosed, opens, member, end_point, is_dash}
 
 -- what stands before an end, and after it
 abbrev pub Content : Type 0

@@ -1,7 +1,7 @@
 -- The elements and readings of the program as plain data.
 use Rattle.std.specs.Prelude.{is_some}
 use Rattle.pg_bytes.specs.ByteSets.{bytes}
-use Rattle.pg_syntax.specs.Brackets as B
+use Rattle.pg_grammar.specs.Brackets as B
 use Rattle.pg_syntax.specs.BracketReading as R
 use Rattle.pg_syntax.specs.declared.element.Element.{Element}
 use Rattle.pg_syntax.specs.declared.element.Element.TheVariants.{Single, Enclosed}

@@ -1,8 +1,8 @@
 -- The kind of a pattern whose text is an expression.
-use Rattle.pg_syntax.specs.declared.token.Syntax.{Syntax}
-use Rattle.pg_syntax.specs.declared.token.Syntax.TheVariants as S
-use Rattle.pg_syntax.specs.declared.pattern_list.Kind.{Kind}
-use Rattle.pg_syntax.specs.declared.pattern_list.Kind.TheVariants as K
+use Rattle.pg_grammar.specs.declared.syntax.Syntax.{Syntax}
+use Rattle.pg_grammar.specs.declared.syntax.Syntax.TheVariants as S
+use Rattle.pg_grammar.specs.declared.pattern_list.Kind.{Kind}
+use Rattle.pg_grammar.specs.declared.pattern_list.Kind.TheVariants as K
 
 -- the kind that is written in a syntax
 abbrev pub kind_of : Syntax → Kind

@@ -1,14 +1,3 @@
-pub mod Brackets
-pub mod Intervals
-pub mod Grammar
-pub mod Places
-pub mod Results
-pub mod PatternLists
-pub mod ListResults
-pub mod FaultTexts
-pub mod Slices
-pub mod Memory
-pub mod Same
 pub mod BracketReading
 pub mod BracketPlaces
 pub mod BracketViews

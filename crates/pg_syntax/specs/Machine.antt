@@ -6,9 +6,9 @@ use Rattle.pg_bytes.specs.Sets.{Bytes, one, all}
 use Rattle.pg_pattern.specs.Patterns.{Pattern, Set, Begin, End, Cat, Alt, Rep, folded}
 use Rattle.pg_syntax.specs.BracketReading.{bracket}
 use Rattle.pg_syntax.specs.IntervalReading.{bounds}
-use Rattle.pg_syntax.specs.Grammar.{is_escaped, unbrace}
-use Rattle.pg_syntax.specs.declared.token.Syntax.{Syntax}
-use Rattle.pg_syntax.specs.declared.token.Syntax.TheVariants.{Basic, Extended}
+use Rattle.pg_grammar.specs.Grammar.{is_escaped, unbrace}
+use Rattle.pg_grammar.specs.declared.syntax.Syntax.{Syntax}
+use Rattle.pg_grammar.specs.declared.syntax.Syntax.TheVariants.{Basic, Extended}
 
 -- an open group, or the whole: the alternatives before the last bar; of the last alternative what a mark
 -- can't reach any more, and the item that a mark would repeat

@@ -5,15 +5,15 @@ use Rattle.pg_bytes.specs.ByteSets.{bytes}
 use Rattle.pg_bytes.specs.declared.byte_set.ByteSet.{ByteSet}
 use Rattle.pg_pattern.specs.Patterns as P
 use Rattle.pg_syntax.specs.Machine as M
-use Rattle.pg_syntax.specs.Places.{PlaceIn}
+use Rattle.pg_grammar.specs.Places.{PlaceIn}
 use Rattle.pg_syntax.specs.BracketPlaces.{BracketPlace}
-use Rattle.pg_syntax.specs.Results.{out_of_memory}
-use Rattle.pg_syntax.specs.declared.token.Syntax.{Syntax}
+use Rattle.pg_grammar.specs.Results.{out_of_memory}
+use Rattle.pg_grammar.specs.declared.syntax.Syntax.{Syntax}
 use Rattle.pg_syntax.specs.declared.token.Token.{Token}
 use Rattle.pg_syntax.specs.declared.token.Token.TheVariants.{Set, Begin, LastEnd, End, Repeat, Open, Close, Bar}
-use Rattle.pg_syntax.specs.declared.fault.SyntaxFault.{SyntaxFault}
-use Rattle.pg_syntax.specs.declared.fault.FaultKind.{FaultKind}
-use Rattle.pg_syntax.specs.declared.fault.FaultKind.TheVariants.{NothingToRepeat, EmptyOperand, TooDeep, OutOfMemory}
+use Rattle.pg_grammar.specs.declared.fault.SyntaxFault.{SyntaxFault}
+use Rattle.pg_grammar.specs.declared.fault.FaultKind.{FaultKind}
+use Rattle.pg_grammar.specs.declared.fault.FaultKind.TheVariants.{NothingToRepeat, EmptyOperand, TooDeep, OutOfMemory}
 
 -- the token with its set as a set of numbers
 abbrev pub token_of : Token → M.Token

@@ -2,16 +2,16 @@
 ghost use Rattle.std.specs.Prelude.{◌≡◌, ◌<◌, ◌≤◌, ◌+◌, ℕ, List, length, ◌∷◌, drop};
 ghost use Rattle.std.specs.Prelude.{option_map, MatchResult, IfErr, Some, None};
 ghost use Rattle.pg_bytes.specs.ByteSets.{bytes};
-ghost use Rattle.pg_syntax.specs.Brackets.{negates, OpensBracket};
+ghost use Rattle.pg_grammar.specs.Brackets.{negates, OpensBracket};
 ghost use Rattle.pg_syntax.specs.BracketReading.{bracket, shape, elements_from, add, put, finish};
 ghost use Rattle.pg_syntax.specs.BracketViews.{element, reading};
 ghost use Rattle.pg_syntax.specs.BracketPlaces.{GoesOn, FaultPlace, FaultPlaced, Placed};
 ghost use Rattle.pg_syntax.specs.Tokens.{FindsSet};
 
 use crate::element::{Element, element_at};
-use crate::fault::{FaultKind, SyntaxFault};
 use crate::sets::{folded, one};
 use pg_bytes::ByteSet;
+use pg_grammar::{FaultKind, SyntaxFault};
 
 /// What the last element may still do. The offset is that of the element, or of the one that began
 /// the range.

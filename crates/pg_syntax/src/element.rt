@@ -2,16 +2,16 @@
 ghost use Rattle.std.specs.Prelude.{◌≡◌, ◌<◌, ◌≤◌, ◌+◌, ◌-◌, ℕ, List, length};
 ghost use Rattle.std.specs.Prelude.{drop, MatchOption, option_map, Some, None};
 ghost use Rattle.pg_bytes.specs.ByteSets.{bytes};
-ghost use Rattle.pg_syntax.specs.Brackets.{member, end_point, is_dash, only_byte};
+ghost use Rattle.pg_grammar.specs.Brackets.{member, end_point, is_dash, only_byte};
 ghost use Rattle.pg_syntax.specs.BracketReading.{range_of, element_at, SingleAt, EnclosedAt};
 ghost use Rattle.pg_syntax.specs.BracketViews.{element};
 ghost use Rattle.pg_syntax.specs.BracketPlaces.{At, FaultPlace, FindsElement};
-ghost use Rattle.pg_syntax.specs.Places.{IsBadRange};
+ghost use Rattle.pg_grammar.specs.Places.{IsBadRange};
 ghost use Rattle.pg_syntax.specs.Reads.{EndsContent};
 
-use crate::fault::{FaultKind, SyntaxFault};
 use crate::sets::one;
 use pg_bytes::{ByteSet, class};
+use pg_grammar::{FaultKind, SyntaxFault};
 
 /// One byte, or what stands in `[: :]`, `[= =]` or `[. .]`, told by its mark.
 #[derive(Clone, Copy)]

@@ -1,11 +1,11 @@
 //! The bounds of intervals (XBD 9.3.6, 9.4.6).
 ghost use Rattle.std.specs.Prelude.{◌≤◌, ◌<◌, [], ◌∷◌, length, drop, Some, None};
-ghost use Rattle.pg_syntax.specs.Grammar.{unbrace};
+ghost use Rattle.pg_grammar.specs.Grammar.{unbrace};
 ghost use Rattle.pg_syntax.specs.Reads.{FindsNumber, FindsRest, FindsBounds};
 ghost use Rattle.pg_syntax.specs.IntervalReading.{number_at, strip, bounds};
 
 use crate::source::Source;
-use crate::token::Syntax;
+use pg_grammar::Syntax;
 
 impl Source<'_> {
     /// A number of one or more digits, up to 255, and the offset after it.

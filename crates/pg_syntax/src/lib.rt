@@ -8,16 +8,13 @@
 mod bracket;
 mod builder;
 mod element;
-mod fault;
 mod interval;
 mod list;
 mod parser;
-mod pattern_list;
 mod sets;
 mod source;
 mod token;
 
-pub use fault::{FaultKind, ListFault, SyntaxFault};
 pub use list::parse_list;
 pub use parser::{fixed, parse_bre, parse_ere};
-pub use pattern_list::{Kind, PatternList};
+pub use pg_grammar::{FaultKind, Kind, ListFault, PatternList, SyntaxFault};

@@ -1,16 +1,15 @@
 //! The trees of all patterns of some lists.
 ghost use Rattle.std.specs.Prelude.{◌≡◌, ◌++◌, [], ◌∷◌, ◌==◌, map, position, IfOk, IfErr, OnOk};
 ghost use Rattle.pg_pattern.specs.Trees.{pattern};
-ghost use Rattle.pg_syntax.specs.Memory.{patterns_of};
-ghost use Rattle.pg_syntax.specs.PatternLists.{patterns, patterns_in, split};
+ghost use Rattle.pg_grammar.specs.Memory.{patterns_of};
+ghost use Rattle.pg_grammar.specs.PatternLists.{patterns, patterns_in, split};
 ghost use Rattle.pg_bytes.specs.Lines.{lines};
-ghost use Rattle.pg_syntax.specs.Slices.{bytes_of, last_line};
-ghost use Rattle.pg_syntax.specs.Results.{IsSpelled, IsFault};
-ghost use Rattle.pg_syntax.specs.ListResults.{AreSpelled, IsListFault};
+ghost use Rattle.pg_grammar.specs.Slices.{bytes_of, last_line};
+ghost use Rattle.pg_grammar.specs.Results.{IsSpelled, IsFault};
+ghost use Rattle.pg_grammar.specs.ListResults.{AreSpelled, IsListFault};
 
-use crate::fault::{FaultKind, ListFault, SyntaxFault};
 use crate::parser::{fixed, parse_bre, parse_ere};
-use crate::pattern_list::{Kind, PatternList};
+use pg_grammar::{FaultKind, Kind, ListFault, PatternList, SyntaxFault};
 use pg_pattern::Tree;
 use std::alloc::{AllocError, Allocator};
 

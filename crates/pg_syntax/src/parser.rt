@@ -1,19 +1,19 @@
 //! From a text to its tree.
 ghost use Rattle.std.specs.Prelude.{◌≡◌, ◌↔◌, ◌≤◌, ◌<◌, length, ◌≢◌, [], IfOk, IfErr, IsErrOf};
 ghost use Rattle.pg_pattern.specs.Trees.{pattern};
-ghost use Rattle.pg_syntax.specs.Results.{IsSpelled, IsFault, too_long};
+ghost use Rattle.pg_grammar.specs.Results.{IsSpelled, IsFault, too_long};
 ghost use Rattle.pg_syntax.specs.Expressions.{kind_of};
-ghost use Rattle.pg_syntax.specs.declared.pattern_list.Kind.TheVariants.{Basic, Extended, Fixed};
-ghost use Rattle.pg_syntax.specs.Grammar.{Literal};
+ghost use Rattle.pg_grammar.specs.declared.pattern_list.Kind.TheVariants.{Basic, Extended, Fixed};
+ghost use Rattle.pg_grammar.specs.Grammar.{Literal};
 ghost use Rattle.pg_syntax.specs.Machine.{start, after};
 ghost use Rattle.pg_syntax.specs.States.{state_of, Did};
 ghost use Rattle.pg_syntax.specs.Tokens.{token_of, blame, Applies};
 
 use crate::builder::Builder;
-use crate::fault::{FaultKind, SyntaxFault};
 use crate::sets::{folded, one};
 use crate::source::Source;
-use crate::token::{Syntax, Token};
+use crate::token::Token;
+use pg_grammar::{FaultKind, Syntax, SyntaxFault};
 use pg_pattern::Tree;
 use std::alloc::{AllocError, Allocator};
 

@@ -3,8 +3,8 @@ ghost use Rattle.std.specs.Prelude.{ℕ, List, ◌≡◌, ◌==◌, ◌+◌, ◌
 ghost use Rattle.std.specs.List.{list_any};
 ghost use Rattle.pg_bytes.specs.Sets.{one};
 ghost use Rattle.pg_pattern.specs.Patterns.{Set, folded};
-ghost use Rattle.pg_syntax.specs.Grammar.{is_escaped, brace, unbrace};
-ghost use Rattle.pg_syntax.specs.Places.{PlaceIn, Stands};
+ghost use Rattle.pg_grammar.specs.Grammar.{is_escaped, brace, unbrace};
+ghost use Rattle.pg_grammar.specs.Places.{PlaceIn, Stands};
 ghost use Rattle.pg_syntax.specs.IntervalReading.{bounds};
 ghost use Rattle.pg_syntax.specs.BracketReading.{bracket};
 ghost use Rattle.pg_syntax.specs.Machine.{basic_escape, extended_escape, basic_token, extended_other};
@@ -15,10 +15,10 @@ ghost use Rattle.pg_syntax.specs.States.{state_of};
 
 use crate::bracket::bracket;
 use crate::builder::Builder;
-use crate::fault::{FaultKind, SyntaxFault};
 use crate::sets::{all, folded, one};
-use crate::token::{Syntax, Token};
+use crate::token::Token;
 use pg_bytes::ByteSet;
+use pg_grammar::{FaultKind, Syntax, SyntaxFault};
 use std::alloc::Allocator;
 
 /// A text, and how it is read.
@@ -39,15 +39,13 @@ fn is_among(byte: u8, bytes: &[u8]) -> bool
     bytes.iter().any(|c| byte == *c)
 }
 
-impl Syntax {
-    /// Whether a backslash makes a byte ordinary (XBD 9.3.2, 9.4.2).
-    fn is_escaped(self, byte: u8) -> bool
-        ensures { result ≡ is_escaped self byte }
-    {
-        match self {
-            Syntax::Basic => is_among(byte, b".[]\\*^$/-\"#%&,:;=@!~"),
-            Syntax::Extended => is_among(byte, b".[]\\()*+?{}|^$/-\"#%&,:;=@!~"),
-        }
+/// Whether a backslash makes a byte ordinary (XBD 9.3.2, 9.4.2).
+fn is_escaped(syntax: Syntax, byte: u8) -> bool
+    ensures { result ≡ is_escaped syntax byte }
+{
+    match syntax {
+        Syntax::Basic => is_among(byte, b".[]\\*^$/-\"#%&,:;=@!~"),
+        Syntax::Extended => is_among(byte, b".[]\\()*+?{}|^$/-\"#%&,:;=@!~"),
     }
 }
 
@@ -142,7 +140,7 @@ impl Source<'_> {
         if byte == b'{' {
             return self.interval(rest, at);
         }
-        if Syntax::Basic.is_escaped(byte) {
+        if is_escaped(Syntax::Basic, byte) {
             return Ok((self.one(byte), rest));
         }
         Err(escape_fault(byte, at))
@@ -163,7 +161,7 @@ impl Source<'_> {
                 at,
             });
         };
-        if Syntax::Extended.is_escaped(byte) {
+        if is_escaped(Syntax::Extended, byte) {
             return Ok((self.one(byte), next + 1));
         }
         Err(escape_fault(byte, at))

@@ -1,13 +1,6 @@
 //! The tokens of an expression.
 use pg_bytes::ByteSet;
 
-/// Which of the two syntaxes of expressions a text is read in (XBD 9.3, 9.4).
-#[derive(Clone, Copy)]
-pub(crate) enum Syntax {
-    Basic,
-    Extended,
-}
-
 /// The smallest part of a text that means something where it stands.
 #[derive(Clone, Copy)]
 pub(crate) enum Token {

@@ -1,7 +1,7 @@
 -- What a search asks for, as plain data.
 use Rattle.std.specs.Prelude.{ℕ, Bool, List, Option, option_map}
-use Rattle.pg_syntax.specs.Slices.{bytes_of}
-use Rattle.pg_syntax.specs.declared.pattern_list.Kind.{Kind}
+use Rattle.pg_grammar.specs.Slices.{bytes_of}
+use Rattle.pg_grammar.specs.declared.pattern_list.Kind.{Kind}
 use Rattle.pg_rows.specs.declared.format.Format.{Format}
 use Rattle.pg_words.specs.Filters.{filters_of}
 use Rattle.pg_words.specs.Line.{Filter}

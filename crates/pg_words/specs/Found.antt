@@ -4,7 +4,7 @@ use Rattle.std.specs.Prelude.{codes}
 use Rattle.clap.specs.Words.{matched_of, one_text, raw_values}
 use Rattle.clap.specs.Lexer.{without_minus}
 use Rattle.clap.specs.declared.parser.matches.Found.{Found}
-use Rattle.pg_syntax.specs.Slices.{bytes_of}
+use Rattle.pg_grammar.specs.Slices.{bytes_of}
 use Rattle.pg_words.specs.Asks.{files_in, texts_in}
 use Rattle.pg_words.specs.declared.operands.Sources.{Sources}
 use Rattle.pg_words.specs.Line.{Text, Value, Nothing, AnyText, Number, Use, fits, is_given, last_value, operands_of}

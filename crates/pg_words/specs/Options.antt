@@ -3,8 +3,8 @@ use Rattle.std.specs.Prelude.{◌&&◌, ◌||◌, Bool, true, false, not, if◌t
 use Rattle.std.specs.Prelude.{List, [], ◌∷◌}
 use Rattle.std.specs.List.{list_all}
 use Rattle.std.specs.Option.{option_map, option_or}
-use Rattle.pg_syntax.specs.declared.pattern_list.Kind.{Kind}
-use Rattle.pg_syntax.specs.declared.pattern_list.Kind.TheVariants.{Basic, Extended, Fixed}
+use Rattle.pg_grammar.specs.declared.pattern_list.Kind.{Kind}
+use Rattle.pg_grammar.specs.declared.pattern_list.Kind.TheVariants.{Basic, Extended, Fixed}
 use Rattle.pg_rows.specs.declared.format.Format.{Format}
 use Rattle.pg_rows.specs.declared.format.Mode.{Mode}
 use Rattle.pg_rows.specs.declared.format.Mode.TheVariants.{Rows, Count, List as Names, ListOthers as Others, Quiet}

@@ -3,7 +3,7 @@ ghost use Rattle.std.specs.Prelude.{◌≡◌};
 ghost use Rattle.pg_rows.specs.Output.{HasRoom};
 
 use pg_rows::{Format, Mode, Separator};
-use pg_syntax::Kind;
+use pg_grammar::Kind;
 
 /// When rows and counts begin with the file's name.
 #[derive(Clone, Copy)]

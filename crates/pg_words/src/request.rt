@@ -4,7 +4,7 @@ ghost use Rattle.pg_rows.specs.Output.{HasRoom};
 
 use crate::options::{Coloring, DeviceAction, Naming};
 use pg_rows::Format;
-use pg_syntax::Kind;
+use pg_grammar::Kind;
 
 /// Which files are searched, by their names.
 #[derive(Clone, Copy)]

@@ -3,7 +3,7 @@ ghost use Rattle.std.specs.Prelude.{◌≡◌, ◌<◌, ◌+◌, List, codes, ma
 ghost use Rattle.std.specs.String.{string_bytes};
 ghost use Rattle.clap.specs.Words.{found_of, kind_of};
 ghost use Rattle.pg_rows.specs.Separator.{separator_for};
-ghost use Rattle.pg_syntax.specs.Slices.{bytes_of};
+ghost use Rattle.pg_grammar.specs.Slices.{bytes_of};
 ghost use Rattle.pg_words.specs.Asked.{asked_of, pace_of};
 ghost use Rattle.pg_words.specs.Asks.{asked_in, asks_of, fault_in, files_in, options_in, pace_in, search_or, texts_in};
 ghost use Rattle.pg_words.specs.Filters.{filters_of};

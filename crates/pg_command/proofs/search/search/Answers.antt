@@ -1,6 +1,6 @@
 use Rattle.std.proofs.Common.{◌∙◌, map, ap, inl, inr, refl, subst, sym}
 use Rattle.std.specs.String.{string_bytes}
-use Rattle.pg_syntax.specs.Slices.{bytes_of}
+use Rattle.pg_grammar.specs.Slices.{bytes_of}
 use Rattle.pg_walk.specs.Scopes.{scope_of}
 use Rattle.pg_files.specs.Listed.{asked_for, files_past, sought}
 use Rattle.pg_base.specs.Sink.{Stream}

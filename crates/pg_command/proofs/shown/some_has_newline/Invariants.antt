@@ -1,6 +1,6 @@
 use Rattle.std.proofs.Common.{◌≡◌, drop}
 use Rattle.std.specs.List.{list_any}
-use Rattle.pg_syntax.specs.Slices.{bytes_of}
+use Rattle.pg_grammar.specs.Slices.{bytes_of}
 use Rattle.pg_command.specs.Shown.{has_newline}
 use Rattle.pg_command.proofs.shown.some_has_newline.Given as goal
 

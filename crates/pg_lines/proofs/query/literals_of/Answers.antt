@@ -8,8 +8,8 @@ use Rattle.pg_literal.specs.Literals as P
 use Rattle.pg_literal.specs.declared.literal.Literal.{Literal}
 use Rattle.pg_lines.specs.Literals.{AreLiterals, data_of}
 use Rattle.pg_blocks.specs.Lines.{IsLine}
-use Rattle.pg_syntax.specs.Grammar.{Spells}
-use Rattle.pg_syntax.specs.ListResults.{AreSpelled}
+use Rattle.pg_grammar.specs.Grammar.{Spells}
+use Rattle.pg_grammar.specs.ListResults.{AreSpelled}
 use Rattle.pg_literal.specs.Literals.{as_searched}
 use Rattle.pg_selection.specs.Search.{SearchText, Bounds, Kind, Fixed, patterns, terminator_of}
 use Rattle.pg_lines.proofs.LiteralLemmas.{literals_are, no_literals}

@@ -1,7 +1,7 @@
 use Rattle.std.proofs.Common.{sym, ◌∙◌, subst, rules}
-use Rattle.pg_syntax.specs.Grammar.{Spells}
+use Rattle.pg_grammar.specs.Grammar.{Spells}
 use Rattle.pg_pattern.specs.declared.tree.Tree.{the_lemmas}
-use Rattle.pg_syntax.specs.declared.pattern_list.Kind.TheVariants.{Fixed}
+use Rattle.pg_grammar.specs.declared.pattern_list.Kind.TheVariants.{Fixed}
 use Rattle.pg_pattern.proofs.PatternLemmas.{pattern-alt}
 use Rattle.pg_literal.proofs.KnownLemmas.{alt_unspelled}
 use Rattle.pg_literal.proofs.LiteralLemmas.{adds_alt}

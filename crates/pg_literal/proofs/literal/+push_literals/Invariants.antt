@@ -1,8 +1,8 @@
 use Rattle.std.proofs.Common.{◌≡◌, ◌≤◌, ℕ, List}
-use Rattle.pg_syntax.specs.Grammar.{Spells}
+use Rattle.pg_grammar.specs.Grammar.{Spells}
 use Rattle.pg_pattern.specs.Trees.{pattern}
 use Rattle.pg_pattern.specs.declared.tree.Tree.{size-Tree}
-use Rattle.pg_syntax.specs.declared.pattern_list.Kind.TheVariants.{Fixed}
+use Rattle.pg_grammar.specs.declared.pattern_list.Kind.TheVariants.{Fixed}
 use Rattle.pg_literal.specs.Added.{Adds}
 use Rattle.pg_literal.specs.declared.literal.Literal.{Literal}
 use Rattle.pg_literal.proofs.literal.+push_literals.Given as goal

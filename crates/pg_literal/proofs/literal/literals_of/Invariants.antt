@@ -2,10 +2,10 @@ use Rattle.std.proofs.Common.{◌≡◌, ◌<◌, ℕ, List, get_or, map, take, 
 use Rattle.std.specs.Bool.{IsTrue}
 use Rattle.std.specs.List.{All, AllZip, Any as AnyOf}
 use Rattle.memchr.specs.Find.{OccursAt}
-use Rattle.pg_syntax.specs.Grammar.{Spells}
+use Rattle.pg_grammar.specs.Grammar.{Spells}
 use Rattle.pg_pattern.specs.Patterns.{Pattern}
 use Rattle.pg_pattern.specs.Trees.{pattern}
-use Rattle.pg_syntax.specs.declared.pattern_list.Kind.TheVariants.{Fixed}
+use Rattle.pg_grammar.specs.declared.pattern_list.Kind.TheVariants.{Fixed}
 use Rattle.pg_pattern.specs.Hits.{HasHit, Hit}
 use Rattle.pg_pattern.specs.declared.bounds.Bounds.TheVariants.{Any}
 use Rattle.pg_literal.specs.Literals.{as_searched, Holds, AreEnough, AreTexts}

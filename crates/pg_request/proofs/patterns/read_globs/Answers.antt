@@ -1,6 +1,6 @@
 use Rattle.std.proofs.Common.{◌∙◌, ◌++◌, ◌∷◌, [], ap, inr, refl, subst, sym, option_map}
 use Rattle.pg_base.specs.Entries.{Ended}
-use Rattle.pg_syntax.proofs.ListLemmas.{map-push}
+use Rattle.pg_grammar.proofs.ListLemmas.{map-push}
 use Rattle.pg_words.specs.Filters.{filters_of}
 use Rattle.pg_request.specs.Asked.{glob_files}
 use Rattle.pg_request.specs.Reading.{FailsToReadAll, HasRead, contents_of}

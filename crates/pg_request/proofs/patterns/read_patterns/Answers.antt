@@ -1,8 +1,8 @@
 use Rattle.std.proofs.Common.{◌≡◌, ◌∙◌, ◌++◌, ◌∷◌, [], map, ap, inr, refl, subst, sym}
 use Rattle.pg_base.specs.Entries.{Ended}
-use Rattle.pg_syntax.specs.Memory.{patterns_of}
-use Rattle.pg_syntax.specs.Slices.{bytes_of}
-use Rattle.pg_syntax.proofs.ListLemmas.{map-push}
+use Rattle.pg_grammar.specs.Memory.{patterns_of}
+use Rattle.pg_grammar.specs.Slices.{bytes_of}
+use Rattle.pg_grammar.proofs.ListLemmas.{map-push}
 use Rattle.pg_selection.specs.Search.{ByLine}
 use Rattle.pg_request.specs.Reading.{FailsToReadAll}
 use Rattle.pg_request.specs.declared.fault.Fault.{Fault}

@@ -1,6 +1,6 @@
 use Rattle.std.proofs.Common.{◌≡◌, ℕ, List, map, take}
-use Rattle.pg_syntax.specs.Memory.{patterns_of}
-use Rattle.pg_syntax.specs.Slices.{bytes_of}
+use Rattle.pg_grammar.specs.Memory.{patterns_of}
+use Rattle.pg_grammar.specs.Slices.{bytes_of}
 use Rattle.pg_selection.specs.Search.{ByLine}
 use Rattle.pg_request.specs.Reading.{HasRead}
 use Rattle.pg_request.proofs.patterns.read_patterns.Given as goal

@@ -1,6 +1,6 @@
 use Rattle.std.proofs.Common.{◌≡◌, map, take}
-use Rattle.pg_syntax.specs.Memory.{patterns_of}
-use Rattle.pg_syntax.specs.Slices.{bytes_of}
+use Rattle.pg_grammar.specs.Memory.{patterns_of}
+use Rattle.pg_grammar.specs.Slices.{bytes_of}
 use Rattle.pg_selection.specs.Search.{Split}
 use Rattle.pg_request.proofs.query.text_lists.Given as goal
 

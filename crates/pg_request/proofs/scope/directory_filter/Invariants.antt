@@ -1,5 +1,5 @@
 use Rattle.std.proofs.Common.{◌≡◌, map, take}
-use Rattle.pg_syntax.specs.Slices.{bytes_of}
+use Rattle.pg_grammar.specs.Slices.{bytes_of}
 use Rattle.pg_glob.specs.Views.{rules}
 use Rattle.pg_request.specs.Asked.{directory_rule}
 use Rattle.pg_request.proofs.scope.directory_filter.Given as goal

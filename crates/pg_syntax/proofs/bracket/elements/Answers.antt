@@ -4,7 +4,7 @@ use Rattle.std.proofs.lemmas.Bool.Decides.{nat_tests}
 use Rattle.pg_syntax.specs.BracketViews.{element, reading}
 use Rattle.pg_syntax.proofs.BracketRuns.{left_more, left_none, left_end, left_close}
 use Rattle.pg_syntax.proofs.BracketAt.{front_of, not_closing, inner, opens_stands}
-use Rattle.pg_syntax.specs.Brackets.{begin, onward}
+use Rattle.pg_grammar.specs.Brackets.{begin, onward}
 use Rattle.pg_syntax.specs.BracketReading.{Fresh, inside_at, rest_of}
 use Rattle.pg_syntax.proofs.bracket.elements.Goals as goal
 use Rattle.pg_syntax.proofs.bracket.elements.Goals.{in-Ok, in-Err}

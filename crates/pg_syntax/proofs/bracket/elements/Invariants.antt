@@ -2,7 +2,7 @@ use Rattle.std.proofs.Common.{◌≡◌, ◌⊎◌, false, ◌≤◌, ◌-◌, l
 use Rattle.pg_syntax.specs.declared.bracket.Mode.TheVariants.{Fresh}
 use Rattle.pg_syntax.specs.BracketReading.{elements_from}
 use Rattle.pg_syntax.specs.BracketViews.{reading}
-use Rattle.pg_syntax.specs.Brackets.{ReadsUpTo}
+use Rattle.pg_grammar.specs.Brackets.{ReadsUpTo}
 use Rattle.pg_syntax.specs.BracketPlaces.{Placed}
 use Rattle.pg_syntax.proofs.BracketRuns.{Left}
 use Rattle.pg_syntax.proofs.bracket.elements.Given as goal

@@ -1,7 +1,7 @@
 use Rattle.std.proofs.Common.{◌≡◌, ◌+◌, length, map, arith}
 use Rattle.pg_pattern.specs.Trees.{pattern}
-use Rattle.pg_syntax.specs.Slices.{bytes_of}
-use Rattle.pg_syntax.proofs.ListLemmas.{trees-more, memory-refused, first-refused}
+use Rattle.pg_grammar.specs.Slices.{bytes_of}
+use Rattle.pg_grammar.proofs.ListLemmas.{trees-more, memory-refused, first-refused}
 use Rattle.std.proofs.lemmas.List.{length-map}
 use Rattle.pg_syntax.proofs.list.parse_texts.Goals as goal
 use Rattle.pg_syntax.proofs.list.parse_texts.Goals.{in-OutOfMemory, in_default}

@@ -1,7 +1,7 @@
 use Rattle.std.proofs.Common.{map, take}
 use Rattle.pg_pattern.specs.Trees.{pattern}
-use Rattle.pg_syntax.specs.Slices.{bytes_of}
-use Rattle.pg_syntax.specs.ListResults.{AreSpelled}
+use Rattle.pg_grammar.specs.Slices.{bytes_of}
+use Rattle.pg_grammar.specs.ListResults.{AreSpelled}
 use Rattle.pg_syntax.proofs.list.parse_texts.Given as goal
 
 abbrev pub invariant-loop-text : goal.invariant-loop-text

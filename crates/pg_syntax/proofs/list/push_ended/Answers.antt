@@ -1,8 +1,8 @@
 use Rattle.std.proofs.Common.{◌≡◌, ◌+◌, ◌-◌, ◌∷◌, [], ◌++◌, length, take, drop, Some, sym, ap, ◌∙◌}
 use Rattle.std.specs.Prelude.{position}
-use Rattle.pg_syntax.specs.Slices.{bytes_of}
-use Rattle.pg_syntax.proofs.SplitLemmas.{newline}
-use Rattle.pg_syntax.proofs.ListLemmas.{bytes-pushed, within-more, split-more, lines-more, split-end, lines-end}
+use Rattle.pg_grammar.specs.Slices.{bytes_of}
+use Rattle.pg_grammar.proofs.SplitLemmas.{newline}
+use Rattle.pg_grammar.proofs.ListLemmas.{bytes-pushed, within-more, split-more, lines-more, split-end, lines-end}
 use Rattle.pg_syntax.proofs.list.push_ended.Goals as goal
 
 pub loop-len-preserved : goal.loop-len-preserved

@@ -1,7 +1,7 @@
 use Rattle.std.proofs.Common.{◌≡◌, ◌≤◌, ◌-◌, ◌++◌, length, drop}
-use Rattle.pg_syntax.specs.PatternLists.{split}
+use Rattle.pg_grammar.specs.PatternLists.{split}
 use Rattle.pg_bytes.specs.Lines.{lines}
-use Rattle.pg_syntax.specs.Slices.{bytes_of}
+use Rattle.pg_grammar.specs.Slices.{bytes_of}
 use Rattle.pg_syntax.proofs.list.push_ended.Given as goal
 
 abbrev pub invariant-loop-len : goal.invariant-loop-len

@@ -1,9 +1,9 @@
 use Rattle.std.proofs.Common.{◌++◌, map, take, sym, ap, ◌∙◌, arith}
 use Rattle.std.proofs.lemmas.List.{take_all}
-use Rattle.pg_syntax.specs.Memory.{patterns_of}
-use Rattle.pg_syntax.specs.PatternLists.{patterns, patterns_in}
-use Rattle.pg_syntax.proofs.ListLemmas.{patterns-push, take-push, map-push}
-use Rattle.pg_syntax.specs.Slices.{bytes_of}
+use Rattle.pg_grammar.specs.Memory.{patterns_of}
+use Rattle.pg_grammar.specs.PatternLists.{patterns, patterns_in}
+use Rattle.pg_grammar.proofs.ListLemmas.{patterns-push, take-push, map-push}
+use Rattle.pg_grammar.specs.Slices.{bytes_of}
 use Rattle.pg_syntax.proofs.list.texts_of.Goals as goal
 
 pub loop-list-preserved : goal.loop-list-preserved

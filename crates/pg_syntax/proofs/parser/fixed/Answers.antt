@@ -1,6 +1,6 @@
 use Rattle.std.proofs.Common.{◌≡◌, length, arith, subst, ◌∙◌, sym, refl}
-use Rattle.pg_syntax.specs.Results.{IsSpelled}
-use Rattle.pg_syntax.specs.declared.pattern_list.Kind.TheVariants.{Fixed}
+use Rattle.pg_grammar.specs.Results.{IsSpelled}
+use Rattle.pg_grammar.specs.declared.pattern_list.Kind.TheVariants.{Fixed}
 use Rattle.pg_pattern.proofs.PatternLemmas.{pattern-empty}
 use Rattle.std.proofs.lemmas.Bool.{eqb-true}
 use Rattle.pg_syntax.proofs.Literals.{empty_spelled, literal_spelled}

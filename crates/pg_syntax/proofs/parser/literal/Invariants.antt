@@ -1,5 +1,5 @@
 use Rattle.std.proofs.Common.{take}
-use Rattle.pg_syntax.specs.Grammar.{Literal}
+use Rattle.pg_grammar.specs.Grammar.{Literal}
 use Rattle.pg_pattern.specs.Trees.{pattern}
 use Rattle.pg_syntax.proofs.parser.literal.Given as goal
 

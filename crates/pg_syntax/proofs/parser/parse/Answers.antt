@@ -1,5 +1,5 @@
 use Rattle.std.proofs.Common.{subst, sym, refl}
-use Rattle.pg_syntax.specs.Results.{IsSpelled}
+use Rattle.pg_grammar.specs.Results.{IsSpelled}
 use Rattle.pg_syntax.specs.Expressions.{kind_of}
 use Rattle.pg_pattern.proofs.PatternLemmas.{pattern-empty}
 use Rattle.pg_syntax.proofs.TokenLoop.{empty_spelled, empty_text}

@@ -1,5 +1,5 @@
 use Rattle.std.proofs.Common.{◌∙◌, ap, codes, refl}
-use Rattle.pg_syntax.specs.Slices.{bytes_of}
+use Rattle.pg_grammar.specs.Slices.{bytes_of}
 use Rattle.pg_words.specs.Operands.{searched}
 use Rattle.pg_words.proofs.Answered.{no_fault, search_is}
 use Rattle.pg_words.proofs.words.search_of.Goals as goal

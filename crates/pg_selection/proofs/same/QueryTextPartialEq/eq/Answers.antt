@@ -1,6 +1,6 @@
 use Rattle.std.proofs.Common.{◌∙◌, refl}
-use Rattle.pg_syntax.specs.Memory.{patterns_of}
-use Rattle.pg_syntax.specs.Same.{same_patterns}
+use Rattle.pg_grammar.specs.Memory.{patterns_of}
+use Rattle.pg_grammar.specs.Same.{same_patterns}
 use Rattle.pg_selection.specs.Same.{same_text}
 use Rattle.pg_selection.proofs.SameLemmas.{kind-same, pointwise-map}
 use Rattle.pg_selection.proofs.same.QueryTextPartialEq.eq.Goals as goal

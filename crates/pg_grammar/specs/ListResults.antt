@@ -1,9 +1,9 @@
 -- What the parser of pattern lists answers.
 use Rattle.std.specs.Prelude.{ℕ, ◌+◌, ◌≡◌, ◌⊎◌, Bool, List, [], ◌∷◌, ◌++◌, length}
 use Rattle.pg_pattern.specs.Patterns.{Pattern}
-use Rattle.pg_syntax.specs.Results.{IsSpelled, IsRefused, out_of_memory}
-use Rattle.pg_syntax.specs.declared.pattern_list.Kind.{Kind}
-use Rattle.pg_syntax.specs.declared.fault.ListFault.{ListFault}
+use Rattle.pg_grammar.specs.Results.{IsSpelled, IsRefused, out_of_memory}
+use Rattle.pg_grammar.specs.declared.pattern_list.Kind.{Kind}
+use Rattle.pg_grammar.specs.declared.fault.ListFault.{ListFault}
 
 -- each text spells the pattern at its place
 abbrev pub AreSpelled : Kind → Bool → List (List ℕ) → List Pattern → Type 0

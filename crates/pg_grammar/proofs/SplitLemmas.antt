@@ -6,9 +6,9 @@ use Rattle.std.specs.List.{onto_first, position_or_len}
 use Rattle.std.proofs.lemmas.Bool.{false≢true}
 use Rattle.std.proofs.lemmas.Bool.Decides.{nat_tests}
 use Rattle.std.proofs.lemmas.List.Quantifiers.{position-Some}
-use Rattle.pg_syntax.specs.PatternLists.{split}
+use Rattle.pg_grammar.specs.PatternLists.{split}
 use Rattle.pg_bytes.specs.Lines.{lines}
-use Rattle.pg_syntax.specs.Slices.{last_line}
+use Rattle.pg_grammar.specs.Slices.{last_line}
 
 abbrev pub newline : ℕ → Bool
 newline b = eqb b 10

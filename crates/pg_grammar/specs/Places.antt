@@ -1,18 +1,18 @@
 -- What stands where a fault is found.
 use Rattle.std.specs.Prelude.{ℕ, zero, suc, ◌≡◌, ◌≢◌, ◌≤◌, ◌<◌, Bool, true, List, [], ◌∷◌, ◌++◌, length, drop, ◌⊎◌}
 use Rattle.pg_pattern.specs.Patterns.{Pattern}
-use Rattle.pg_syntax.specs.Grammar.{opening, closing, brace, Body}
-use Rattle.pg_syntax.specs.Brackets.{Element, Single, IsFront, HaveNoRange, OpensBracket, ReadsUpTo}
-use Rattle.pg_syntax.specs.declared.token.Syntax.{Syntax}
-use Rattle.pg_syntax.specs.declared.token.Syntax.TheVariants as S
-use Rattle.pg_syntax.specs.declared.token.Syntax.TheVariants.{Basic, Extended}
-use Rattle.pg_syntax.specs.declared.pattern_list.Kind.{Kind}
-use Rattle.pg_syntax.specs.declared.pattern_list.Kind.TheVariants as K
-use Rattle.pg_syntax.specs.declared.fault.FaultKind.{FaultKind}
-use Rattle.pg_syntax.specs.declared.fault.FaultKind.TheVariants.{TrailingBackslash, BadEscape, BackReference}
-use Rattle.pg_syntax.specs.declared.fault.FaultKind.TheVariants.{UnmatchedBracket, BadClass, BadCollating, BadRange}
-use Rattle.pg_syntax.specs.declared.fault.FaultKind.TheVariants.{UnmatchedGroup, BadInterval, NothingToRepeat}
-use Rattle.pg_syntax.specs.declared.fault.FaultKind.TheVariants.{EmptyOperand, TooDeep, OutOfMemory, TooLong}
+use Rattle.pg_grammar.specs.Grammar.{opening, closing, brace, Body}
+use Rattle.pg_grammar.specs.Brackets.{Element, Single, IsFront, HaveNoRange, OpensBracket, ReadsUpTo}
+use Rattle.pg_grammar.specs.declared.syntax.Syntax.{Syntax}
+use Rattle.pg_grammar.specs.declared.syntax.Syntax.TheVariants as S
+use Rattle.pg_grammar.specs.declared.syntax.Syntax.TheVariants.{Basic, Extended}
+use Rattle.pg_grammar.specs.declared.pattern_list.Kind.{Kind}
+use Rattle.pg_grammar.specs.declared.pattern_list.Kind.TheVariants as K
+use Rattle.pg_grammar.specs.declared.fault.FaultKind.{FaultKind}
+use Rattle.pg_grammar.specs.declared.fault.FaultKind.TheVariants.{TrailingBackslash, BadEscape, BackReference}
+use Rattle.pg_grammar.specs.declared.fault.FaultKind.TheVariants.{UnmatchedBracket, BadClass, BadCollating, BadRange}
+use Rattle.pg_grammar.specs.declared.fault.FaultKind.TheVariants.{UnmatchedGroup, BadInterval, NothingToRepeat}
+use Rattle.pg_grammar.specs.declared.fault.FaultKind.TheVariants.{EmptyOperand, TooDeep, OutOfMemory, TooLong}
 
 -- the bytes stand in the text at this offset
 abbrev pub Stands : List ℕ → ℕ → List ℕ → Type 0

@@ -6,13 +6,13 @@ use Rattle.std.specs.List.{list_any}
 use Prim.Native.String.{String}
 use Rattle.pg_bytes.specs.Sets.{Bytes, one, all}
 use Rattle.pg_pattern.specs.Patterns.{Pattern, Empty, Set, Begin, End, Cat, Alt, Rep, folded}
-use Rattle.pg_syntax.specs.Brackets.{IsBracket}
-use Rattle.pg_syntax.specs.Intervals.{IsBounds}
-use Rattle.pg_syntax.specs.declared.token.Syntax.{Syntax}
-use Rattle.pg_syntax.specs.declared.token.Syntax.TheVariants as S
-use Rattle.pg_syntax.specs.declared.token.Syntax.TheVariants.{Basic, Extended}
-use Rattle.pg_syntax.specs.declared.pattern_list.Kind.{Kind}
-use Rattle.pg_syntax.specs.declared.pattern_list.Kind.TheVariants as K
+use Rattle.pg_grammar.specs.Brackets.{IsBracket}
+use Rattle.pg_grammar.specs.Intervals.{IsBounds}
+use Rattle.pg_grammar.specs.declared.syntax.Syntax.{Syntax}
+use Rattle.pg_grammar.specs.declared.syntax.Syntax.TheVariants as S
+use Rattle.pg_grammar.specs.declared.syntax.Syntax.TheVariants.{Basic, Extended}
+use Rattle.pg_grammar.specs.declared.pattern_list.Kind.{Kind}
+use Rattle.pg_grammar.specs.declared.pattern_list.Kind.TheVariants as K
 
 infix 60 ◌∈◌
 -- the byte is one of the string's

@@ -5,7 +5,7 @@ use Rattle.std.specs.Cmp.{IsEquivalence}
 use Rattle.std.proofs.Common.{sym, ap, subst}
 use Rattle.std.proofs.lemmas.Bool.{false≢true}
 use Rattle.std.proofs.lemmas.Slice.Eq.{bytes_eq-Decides}
-use Rattle.pg_syntax.specs.PatternLists.{Patterns, Split, ByLine}
+use Rattle.pg_grammar.specs.PatternLists.{Patterns, Split, ByLine}
 
 -- both are texts or both are files, and their bytes are the same
 abbrev pub same_patterns : Patterns → Patterns → Bool

@@ -1,11 +1,11 @@
 -- What the parsers answer.
 use Rattle.std.specs.Prelude.{ℕ, ◌≡◌, ◌<◌, ◌⊎◌, Bool, List, length}
 use Rattle.pg_pattern.specs.Patterns.{Pattern, IsProper}
-use Rattle.pg_syntax.specs.Grammar.{Spells}
-use Rattle.pg_syntax.specs.Places.{Place}
-use Rattle.pg_syntax.specs.declared.pattern_list.Kind.{Kind}
-use Rattle.pg_syntax.specs.declared.fault.FaultKind.TheVariants.{OutOfMemory, TooLong}
-use Rattle.pg_syntax.specs.declared.fault.SyntaxFault.{SyntaxFault}
+use Rattle.pg_grammar.specs.Grammar.{Spells}
+use Rattle.pg_grammar.specs.Places.{Place}
+use Rattle.pg_grammar.specs.declared.pattern_list.Kind.{Kind}
+use Rattle.pg_grammar.specs.declared.fault.FaultKind.TheVariants.{OutOfMemory, TooLong}
+use Rattle.pg_grammar.specs.declared.fault.SyntaxFault.{SyntaxFault}
 
 -- a growth was refused
 abbrev pub out_of_memory : SyntaxFault

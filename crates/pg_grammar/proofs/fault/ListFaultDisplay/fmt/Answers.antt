@@ -1,4 +1,4 @@
-use Rattle.pg_syntax.proofs.fault.ListFaultDisplay.fmt.Goals as goal
+use Rattle.pg_grammar.proofs.fault.ListFaultDisplay.fmt.Goals as goal
 
 pub returns-in-OutOfMemory-clause-writes : goal.returns-in-OutOfMemory-clause-writes
 returns-in-OutOfMemory-clause-writes g c =

@@ -24,8 +24,8 @@ pub enum PatternList<A: Allocator = Global> {
 }
 
 impl<A: Allocator> PartialEq for PatternList<A> {
-    ghost use Rattle.pg_syntax.specs.Memory.{patterns_of};
-    ghost use Rattle.pg_syntax.specs.Same.{same_patterns, same_patterns-laws};
+    ghost use Rattle.pg_grammar.specs.Memory.{patterns_of};
+    ghost use Rattle.pg_grammar.specs.Same.{same_patterns, same_patterns-laws};
 
     ghost eq = { λ a b. same_patterns (patterns_of a) (patterns_of b) };
 
@@ -41,8 +41,8 @@ impl<A: Allocator> PartialEq for PatternList<A> {
 }
 
 impl<A: Allocator> Eq for PatternList<A> {
-    ghost use Rattle.pg_syntax.specs.Memory.{patterns_of};
-    ghost use Rattle.pg_syntax.specs.Same.{same_patterns-laws};
+    ghost use Rattle.pg_grammar.specs.Memory.{patterns_of};
+    ghost use Rattle.pg_grammar.specs.Same.{same_patterns-laws};
 
     ghost laws = { on_equiv patterns_of same_patterns-laws };
 }

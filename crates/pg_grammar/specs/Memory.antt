@@ -1,7 +1,7 @@
 -- Pattern lists of the program as plain data, without where they lie in memory.
-use Rattle.pg_syntax.specs.PatternLists.{Patterns, Split, ByLine}
-use Rattle.pg_syntax.specs.declared.pattern_list.PatternList.{PatternList}
-use Rattle.pg_syntax.specs.declared.pattern_list.PatternList.TheVariants.{Text, Lines}
+use Rattle.pg_grammar.specs.PatternLists.{Patterns, Split, ByLine}
+use Rattle.pg_grammar.specs.declared.pattern_list.PatternList.{PatternList}
+use Rattle.pg_grammar.specs.declared.pattern_list.PatternList.TheVariants.{Text, Lines}
 
 -- a list without where it lies in memory
 abbrev pub patterns_of : {A : Type 0} → PatternList A → Patterns

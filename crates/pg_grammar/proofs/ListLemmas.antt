@@ -5,21 +5,21 @@ use Rattle.std.proofs.Common.{length-drop, inl, inr}
 use Rattle.std.specs.Prelude.{position}
 use Rattle.std.specs.Borrow.{Bor}
 use Rattle.std.proofs.lemmas.List.{take_rest, drop-drop, take_more, take-append-drop, map-append}
-use Rattle.pg_syntax.specs.PatternLists.{Patterns, split, patterns_in, patterns}
+use Rattle.pg_grammar.specs.PatternLists.{Patterns, split, patterns_in, patterns}
 use Rattle.pg_bytes.specs.Lines.{lines}
-use Rattle.pg_syntax.specs.Slices.{bytes_of, last_line}
+use Rattle.pg_grammar.specs.Slices.{bytes_of, last_line}
 use Rattle.pg_pattern.specs.Patterns.{Pattern}
 use Rattle.pg_pattern.specs.Trees.{pattern}
 use Rattle.pg_pattern.specs.declared.tree.Tree.{Tree}
-use Rattle.pg_syntax.specs.Places.{Place}
-use Rattle.pg_syntax.specs.Results.{IsSpelled, IsFault, out_of_memory}
-use Rattle.pg_syntax.specs.ListResults.{AreSpelled, IsListFault}
-use Rattle.pg_syntax.specs.declared.pattern_list.Kind.{Kind}
-use Rattle.pg_syntax.specs.declared.pattern_list.Kind.TheVariants as K
-use Rattle.pg_syntax.specs.declared.fault.SyntaxFault.{SyntaxFault}
-use Rattle.pg_syntax.specs.declared.fault.FaultKind.{FaultKind}
-use Rattle.pg_syntax.specs.declared.fault.FaultKind.TheVariants.{OutOfMemory}
-use Rattle.pg_syntax.proofs.SplitLemmas.{newline, found-within, split-found, lines-found, split-last, lines-last}
+use Rattle.pg_grammar.specs.Places.{Place}
+use Rattle.pg_grammar.specs.Results.{IsSpelled, IsFault, out_of_memory}
+use Rattle.pg_grammar.specs.ListResults.{AreSpelled, IsListFault}
+use Rattle.pg_grammar.specs.declared.pattern_list.Kind.{Kind}
+use Rattle.pg_grammar.specs.declared.pattern_list.Kind.TheVariants as K
+use Rattle.pg_grammar.specs.declared.fault.SyntaxFault.{SyntaxFault}
+use Rattle.pg_grammar.specs.declared.fault.FaultKind.{FaultKind}
+use Rattle.pg_grammar.specs.declared.fault.FaultKind.TheVariants.{OutOfMemory}
+use Rattle.pg_grammar.proofs.SplitLemmas.{newline, found-within, split-found, lines-found, split-last, lines-last}
 
 -- one more item of a list that is mapped
 pub map-push : {X Y : Type 0} (f : X → Y) (xs : List X) (x : X) → map f (xs ++ x ∷ []) ≡ map f xs ++ f x ∷ []

@@ -1,6 +1,6 @@
 //! What is wrong with a text.
-ghost use Rattle.pg_syntax.specs.declared.fault.FaultKind.TheVariants.{OutOfMemory};
-ghost use Rattle.pg_syntax.specs.FaultTexts.{kind_text};
+ghost use Rattle.pg_grammar.specs.declared.fault.FaultKind.TheVariants.{OutOfMemory};
+ghost use Rattle.pg_grammar.specs.FaultTexts.{kind_text};
 ghost use Rattle.std.specs.Prelude.{◌≡◌};
 
 use std::alloc::{AllocError, AllocFailed};
@@ -91,7 +91,7 @@ pub struct SyntaxFault {
 
 impl fmt::Display for SyntaxFault {
     ghost use Rattle.std.specs.Prelude.{Some};
-    ghost use Rattle.pg_syntax.specs.FaultTexts.{fault_text};
+    ghost use Rattle.pg_grammar.specs.FaultTexts.{fault_text};
 
     ghost output = { λ fault. Some (fault_text fault) };
 
@@ -128,7 +128,7 @@ pub struct ListFault {
 
 impl fmt::Display for ListFault {
     ghost use Rattle.std.specs.Prelude.{Some};
-    ghost use Rattle.pg_syntax.specs.FaultTexts.{list_text};
+    ghost use Rattle.pg_grammar.specs.FaultTexts.{list_text};
 
     ghost output = { λ fault. Some (list_text fault) };
 

@@ -1,0 +1,2 @@
+pub mod SplitLemmas
+pub mod ListLemmas

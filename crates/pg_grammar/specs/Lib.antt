@@ -1,0 +1,11 @@
+pub mod Brackets
+pub mod Intervals
+pub mod Grammar
+pub mod Places
+pub mod Results
+pub mod PatternLists
+pub mod ListResults
+pub mod Memory
+pub mod Same
+pub mod FaultTexts
+pub mod Slices
