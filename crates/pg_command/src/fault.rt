@@ -11,11 +11,11 @@ ghost use Rattle.pg_command.specs.Told.{pattern_line, plain_line};
 use crate::shown::{advice, blanks, byte_at, shown_text};
 use itoa::Buffer;
 use pg_base::{Cause, Sink};
+use pg_grammar::{ListFault, SyntaxFault};
 use pg_lines::QueryFault;
 use pg_request::Fault;
 use pg_run::{RunFault, tell};
 use pg_search::SearchFault;
-use pg_grammar::{ListFault, SyntaxFault};
 use std::alloc::Global;
 
 /// The status of a run that met a fault.

@@ -5,8 +5,8 @@ ghost use Rattle.pg_grammar.specs.Slices.{bytes_of};
 ghost use Rattle.pg_selection.specs.Search.{Split};
 ghost use Rattle.pg_request.specs.Asked.{asked_of, text_with, wants_parts};
 
-use pg_selection::QueryText;
 use pg_grammar::PatternList;
+use pg_selection::QueryText;
 use pg_words::Request;
 use std::alloc::{AllocError, Global};
 

@@ -2,24 +2,17 @@
 use Rattle.std.proofs.Common.{◌≡◌, ℕ, ◌<◌, Bool, true, false, ◌||◌, List, [], ◌++◌, refl, sym, ◌∙◌, subst, Result, Ok}
 use Rattle.std.proofs.Common.{Err}
 use Rattle.std.specs.Prelude.{IsErrOf}
-use Rattle.pg_selection.specs.Search.{terminator}
 use Rattle.pg_base.specs.Sink.{Stream}
-use Rattle.pg_rows.specs.Output.{output, HasRoom}
-use Rattle.pg_seq.specs.Plan.{IsShaped, entries_of}
-use Rattle.pg_seq.specs.History.{Past, plan, handed, handed_after, front_after, taken_of}
-use Rattle.pg_seq.specs.Standing.{Drained, drained}
-use Rattle.pg_seq.specs.declared.answers.SinkFault.{SinkFault}
-use Rattle.pg_seq.specs.declared.answers.SinkFault.TheVariants.{WriteFailed, Failed}
-use Rattle.pg_seq.proofs.BeginLemmas.{begins_trans, front_begins}
-use Rattle.pg_round.specs.Receipts.{IsSafe, HasFailed, HasWritten, Takes}
+use Rattle.pg_rows.specs.Output.{output}
+use Rattle.pg_plan.specs.Plan.{entries_of}
+use Rattle.pg_plan.specs.History.{Past, plan, handed}
+use Rattle.pg_plan.specs.Drains.{Drained, drained}
+use Rattle.pg_plan.specs.declared.answers.SinkFault.{SinkFault}
+use Rattle.pg_plan.specs.declared.answers.SinkFault.TheVariants.{WriteFailed, Failed}
+use Rattle.pg_plan.proofs.BeginLemmas.{begins_trans}
+use Rattle.pg_round.specs.Receipts.{HasFailed, HasWritten, Takes}
+use Rattle.pg_plan.specs.Drains.{IsSafe}
 use Rattle.pg_round.specs.declared.fault.RoundFault.TheVariants.{Sink}
-
--- what may be handed out is a beginning of what the plan gives
-pub handed_safe : (past : Past) → HasRoom past.format → IsShaped (terminator past.query) (plan past)
-    → IsSafe past (handed past)
-unfolding handed_after front_after
-handed_safe past room shape = front_begins past.query past.format room (taken_of past.query past.events)
-    (plan past) shape
 
 or_false : (b : Bool) → (b || false) ≡ b
 or_false true = refl

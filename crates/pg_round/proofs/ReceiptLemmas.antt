@@ -4,10 +4,11 @@ use Rattle.std.proofs.Common.{append-nil, Result, Ok, Err}
 use Rattle.pg_selection.specs.Searched.{Searched}
 use Rattle.pg_rows.specs.Output.{output}
 use Rattle.pg_base.specs.Sink.{Stream, IsBeginning}
-use Rattle.pg_seq.specs.Plan.{Step, entries_of}
-use Rattle.pg_seq.specs.History.{Past, Event, Arrived, plan_of, handed, arrived}
+use Rattle.pg_plan.specs.Plan.{Step, entries_of}
+use Rattle.pg_plan.specs.History.{Past, Event, Arrived, plan_of, handed, arrived}
 use Rattle.pg_board.specs.Merge.{IsMerge}
-use Rattle.pg_round.specs.Receipts.{arrivals, received, IsSafe, HasReceived, HasFailed, HasWritten}
+use Rattle.pg_round.specs.Receipts.{arrivals, received, HasReceived, HasFailed, HasWritten}
+use Rattle.pg_plan.specs.Drains.{IsSafe}
 use Rattle.pg_round.specs.Receipts.{HasDelivered, HasRound, Takes}
 use Rattle.pg_workers.specs.Results.{HasAll}
 use Rattle.pg_round.specs.declared.fault.RoundFault.{RoundFault}

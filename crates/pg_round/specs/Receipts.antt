@@ -3,10 +3,9 @@ use Rattle.std.specs.Prelude.{◌≡◌, ℕ, ◌<◌, false, List, [], ◌∷�
 use Rattle.std.specs.Result.{MatchResult}
 use Rattle.pg_board.specs.Merge.{IsMerge}
 use Rattle.pg_selection.specs.Searched.{Searched}
-use Rattle.pg_rows.specs.Output.{output}
-use Rattle.pg_base.specs.Sink.{Stream, IsBeginning}
-use Rattle.pg_seq.specs.Plan.{entries_of}
-use Rattle.pg_seq.specs.History.{Past, Event, Arrived, plan, handed}
+use Rattle.pg_base.specs.Sink.{Stream}
+use Rattle.pg_plan.specs.History.{Past, Event, Arrived, handed}
+use Rattle.pg_plan.specs.Drains.{IsSafe}
 use Rattle.pg_workers.specs.Results.{HasAll}
 use Rattle.pg_round.specs.declared.fault.RoundFault.{RoundFault}
 use Rattle.pg_round.specs.declared.fault.RoundFault.TheVariants.{OutOfMemory, Sink}
@@ -19,10 +18,6 @@ arrivals (r ∷ rs) events = arrivals rs (Arrived r ∷ events)
 -- the past after these arrivals too, and after drains that wrote this
 abbrev pub received : Past → List Searched → List ℕ → Past
 received past rs text = record past { events = arrivals rs past.events; written = past.written ++ text }
-
--- this is a beginning of what the plan gives
-abbrev pub IsSafe : Past → List ℕ → Type 0
-IsSafe past written = IsBeginning written (output past.query past.format (entries_of (plan past)))
 
 -- what a writer took grew by this text, and all that was written is safe
 abbrev pub Wrote : Past → List ℕ → List ℕ → List ℕ → Type 0

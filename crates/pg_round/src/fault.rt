@@ -2,7 +2,7 @@
 ghost use Rattle.std.specs.Prelude.{◌≡◌};
 ghost use Rattle.pg_round.specs.declared.fault.RoundFault.TheVariants.{OutOfMemory, Sink};
 
-use pg_seq::SinkFault;
+use pg_plan::SinkFault;
 use std::alloc::AllocError;
 use thiserror::Error;
 

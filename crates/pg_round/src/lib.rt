@@ -8,15 +8,14 @@
 //! calling thread has a [`Reader`] go on.
 #![tactic(auto)]
 
-mod collector;
 mod fault;
 mod reader;
 mod receiving;
 mod searching;
 mod streaming;
 
-pub use collector::Collector;
 pub use fault::RoundFault;
+pub use pg_plan::Collector;
 pub use pg_workers::{BlockSearch, Round, Unfinished, work};
 pub use reader::{NothingToRead, Reader};
 pub use searching::search_round;

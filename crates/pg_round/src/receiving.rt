@@ -5,11 +5,11 @@ ghost use Rattle.pg_round.specs.Reading.{HasGoneOn};
 ghost use Rattle.pg_round.specs.Receipts.{HasDelivered, HasReceived, Takes};
 ghost use Rattle.pg_round.specs.declared.fault.RoundFault.TheVariants.{Sink as SinkFailed};
 
-use crate::collector::Collector;
 use crate::fault::RoundFault;
 use crate::reader::Reader;
 use pg_base::Sink;
 use pg_board::{Delivered, TakePass, Tray};
+use pg_plan::Collector;
 use pg_selection::BlockResult;
 use pg_workers::Signs;
 use std::alloc::Allocator;

@@ -5,7 +5,6 @@ ghost use Rattle.pg_workers.specs.Workers.{task_of, IsReady, HasFinished, AreBac
 ghost use Rattle.pg_round.specs.Reading.{HasGoneOn};
 ghost use Rattle.pg_round.specs.Receipts.{HasReceived, HasRound, Takes};
 
-use crate::collector::Collector;
 use crate::fault::RoundFault;
 use crate::reader::Reader;
 use crate::receiving::deliver;
@@ -13,6 +12,7 @@ use crate::streaming::stream;
 use pg_base::Sink;
 use pg_blocks::Block;
 use pg_board::TakePass;
+use pg_plan::Collector;
 use pg_selection::BlockResult;
 use pg_workers::{BlockSearch, Opened, Round, Worker, close_round, open_round, search_rest};
 use std::alloc::Allocator;

@@ -17,7 +17,7 @@ use Rattle.pg_rows.specs.Output.{count_row, name_row, output}
 use Rattle.pg_base.specs.Sink.{IsBeginning}
 use Rattle.pg_rows.specs.Trail.{run_pieces, trail_of}
 use Rattle.pg_rows.proofs.FoldLemmas.{rows_begin, pieces_more, trail_is}
-use Rattle.pg_seq.proofs.BeginLemmas.{begins_trans}
+use Rattle.pg_plan.proofs.BeginLemmas.{begins_trans}
 use Rattle.pg_rows.specs.Enough.{lines_suffice, is_enough}
 use Rattle.pg_seq.specs.Settled.{AreLeftRightly, GiveTheSame}
 use Rattle.pg_run.specs.Outcome.{MayBecome, IsContinuation}

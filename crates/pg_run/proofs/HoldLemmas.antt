@@ -13,17 +13,18 @@ use Rattle.pg_selection.specs.Searched.{Searched}
 use Rattle.pg_rows.specs.Output.{HasRoom, output, status}
 use Rattle.pg_rows.specs.Enough.{is_enough}
 use Rattle.pg_base.specs.Sink.{Stream, IsBeginning}
-use Rattle.pg_seq.specs.declared.answers.Arrival.TheVariants.{Taken}
-use Rattle.pg_seq.specs.declared.answers.SinkFault.{SinkFault}
-use Rattle.pg_seq.specs.declared.answers.SinkFault.TheVariants.{WriteFailed, Failed}
-use Rattle.pg_seq.specs.Plan.{Step, Announces, MayFollow, IsShaped, IsPlan, announced, opened, entries_of, is_open}
-use Rattle.pg_seq.specs.History.{Past, Planned, Arrived, start, planned, arrived, plan, taken_of, taken_after}
-use Rattle.pg_seq.specs.History.{is_taken, all_taken, answer, answer_after, front_of, front_after, handed, handed_after}
-use Rattle.pg_seq.specs.History.{IsComplete, status_of}
-use Rattle.pg_seq.specs.Standing.{IsAfter, Drained, drained}
+use Rattle.pg_plan.specs.declared.answers.Arrival.TheVariants.{Taken}
+use Rattle.pg_plan.specs.declared.answers.SinkFault.{SinkFault}
+use Rattle.pg_plan.specs.declared.answers.SinkFault.TheVariants.{WriteFailed, Failed}
+use Rattle.pg_plan.specs.Plan.{Step, Announces, MayFollow, IsShaped, IsPlan, announced, opened, entries_of, is_open}
+use Rattle.pg_plan.specs.History.{Past, Planned, Arrived, start, planned, arrived, plan, taken_of, taken_after}
+use Rattle.pg_plan.specs.History.{is_taken, all_taken, answer, answer_after, front_of, front_after, handed, handed_after}
+use Rattle.pg_plan.specs.History.{IsComplete, status_of}
+use Rattle.pg_seq.specs.Standing.{IsAfter}
+use Rattle.pg_plan.specs.Drains.{Drained, drained}
 use Rattle.pg_seq.proofs.ArrivalLaws.{first_is_taken}
-use Rattle.pg_seq.proofs.BeginLemmas.{begins_trans, shape_of}
-use Rattle.pg_seq.proofs.CursorLemmas.{plan_begins}
+use Rattle.pg_plan.proofs.BeginLemmas.{begins_trans, shape_of}
+use Rattle.pg_plan.proofs.CursorLemmas.{plan_begins}
 use Rattle.pg_seq.proofs.FrontLemmas.{front_all}
 use Rattle.pg_seq.proofs.KeyLemmas.{next_not_taken}
 use Rattle.pg_run.specs.Holding.{Aim, HasPlan, MayStep, BreaksOffInSearch, AllIsWritten, past_of, format_of, output_of}

@@ -21,8 +21,8 @@ use Rattle.pg_rows.specs.Output.{HasRoom, output, when}
 use Rattle.pg_rows.specs.Enough.{is_enough}
 use Rattle.pg_base.specs.Sink.{Stream, IsBeginning, TakesPart}
 use Rattle.pg_base.proofs.SinkLemmas.{takes_longer}
-use Rattle.pg_seq.specs.Plan.{Step, Announces, Ends, entries_of}
-use Rattle.pg_seq.proofs.CursorLemmas.{joined_push}
+use Rattle.pg_plan.specs.Plan.{Step, Announces, Ends, entries_of}
+use Rattle.pg_plan.proofs.CursorLemmas.{joined_push}
 use Rattle.pg_files.specs.Given.{Given, FilesPast, entries_given, files_given, gave_bytes, gave_end}
 use Rattle.pg_files.specs.Given.{newest_name}
 use Rattle.pg_run.specs.Lengths.{IsTooLong}

@@ -14,16 +14,16 @@ use Rattle.pg_blocks.specs.Lines.{AreShort}
 use Rattle.pg_selection.specs.Search.{SearchText, terminator, terminator_of}
 use Rattle.pg_blocks.specs.Blocks.{BlockData}
 use Rattle.pg_selection.specs.Searched.{Searched}
-use Rattle.pg_seq.specs.declared.answers.Arrival.{Arrival}
-use Rattle.pg_seq.specs.declared.answers.Arrival.TheVariants.{Taken, Double, Stranger}
-use Rattle.pg_seq.specs.Plan.{Step, Opens, Announces, Ends, Misses, IsShaped, IsPlan, announced}
-use Rattle.pg_seq.specs.History.{Past, Event, Arrived, plan, plan_of, answer_after, arrival, is_taken, taken_of}
-use Rattle.pg_seq.specs.History.{taken_after}
+use Rattle.pg_plan.specs.declared.answers.Arrival.{Arrival}
+use Rattle.pg_plan.specs.declared.answers.Arrival.TheVariants.{Taken, Double, Stranger}
+use Rattle.pg_plan.specs.Plan.{Step, Opens, Announces, Ends, Misses, IsShaped, IsPlan, announced}
+use Rattle.pg_plan.specs.History.{Past, Event, Arrived, plan, plan_of, answer_after, arrival, is_taken, taken_of}
+use Rattle.pg_plan.specs.History.{taken_after}
 use Rattle.pg_seq.proofs.ArrivalLaws.{first_is_taken}
 use Rattle.pg_base.specs.Sink.{Stream, IsBeginning}
-use Rattle.pg_seq.specs.Plan.{opened}
+use Rattle.pg_plan.specs.Plan.{opened}
 use Rattle.pg_seq.specs.Standing.{IsAfter}
-use Rattle.pg_seq.proofs.BeginLemmas.{shape_of}
+use Rattle.pg_plan.proofs.BeginLemmas.{shape_of}
 use Rattle.pg_seq.proofs.StandLemmas.{all_push}
 use Rattle.pg_run.specs.Outcome.{NoneFailed}
 use Rattle.pg_run.specs.Holding.{Aim, HasPlan, AllIsWritten, BreaksOffInSearch, SearchCause, past_of, format_of}
@@ -31,7 +31,8 @@ use Rattle.pg_run.specs.Holding.{SearchesFor, output_of, waiting}
 use Rattle.pg_workers.specs.Results.{HasResult, HasAll}
 use Rattle.pg_workers.specs.Searches.{SearchView}
 use Rattle.pg_run.specs.Searches.{FindsLines}
-use Rattle.pg_round.specs.Receipts.{arrivals, IsSafe, HasRound, HasFailed, FailedBy, NoOtherFailed}
+use Rattle.pg_round.specs.Receipts.{arrivals, HasRound, HasFailed, FailedBy, NoOtherFailed}
+use Rattle.pg_plan.specs.Drains.{IsSafe}
 use Rattle.pg_workers.specs.declared.block_search.BlockSearch.{Ghosts}
 use Rattle.pg_run.specs.declared.engine.Engine.{Engine}
 use Rattle.pg_run.specs.Faults.{fault_of_round}

@@ -19,8 +19,8 @@ use Rattle.pg_rows.specs.Output.{file_rows, line_rows, piece_rows, is_nothing}
 use Rattle.pg_rows.specs.Enough.{is_enough, file_suffices}
 use Rattle.pg_base.specs.Sink.{Stream, TakesPart, WritesAll, WritesPart}
 use Rattle.pg_base.proofs.WriteLemmas.{wrote_none}
-use Rattle.pg_seq.specs.Plan.{Step, Opens, Announces, Ends, Misses, IsShaped, is_open, entries_of, with_end}
-use Rattle.pg_seq.proofs.BeginLemmas.{begins_trans}
+use Rattle.pg_plan.specs.Plan.{Step, Opens, Announces, Ends, Misses, IsShaped, is_open, entries_of, with_end}
+use Rattle.pg_plan.proofs.BeginLemmas.{begins_trans}
 use Rattle.pg_files.specs.Given.{Given, NoFile, File, FilesPast, entries_given, newest_name, nothing_given}
 use Rattle.pg_run.specs.Told.{AddsFailure, faults_of, fault_of, fault_line, told_of}
 use Rattle.pg_run.specs.Outcome.{AreReadRightly, EndsAtSelected, RunFinishes, BreaksOff, HasCause, GotWholeLines}

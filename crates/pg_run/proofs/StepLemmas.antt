@@ -8,7 +8,7 @@ use Rattle.pg_blocks.specs.Lines.{AreWhole}
 use Rattle.pg_blocks.proofs.LineLemmas.{whole_append}
 use Rattle.pg_rows.specs.declared.format.Format.{Format}
 use Rattle.pg_base.specs.Entries.{Entry, Missed, Read, Ending, Running, Ended, Failed, Left, is_running}
-use Rattle.pg_seq.specs.Plan.{with_bytes, with_end}
+use Rattle.pg_plan.specs.Plan.{with_bytes, with_end}
 use Rattle.pg_rows.specs.Enough.{is_enough}
 use Rattle.pg_files.specs.Given.{Given, NoFile, File, entries_given, gave_bytes, gave_end}
 use Rattle.pg_run.specs.Cover.{is_left, IsEntryOf, Covers, HasOpenFile}

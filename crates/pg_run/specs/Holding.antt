@@ -10,8 +10,8 @@ use Rattle.pg_blocks.specs.declared.cutter.Cutter.{Cutter}
 use Rattle.pg_rows.specs.declared.format.Format.{Format}
 use Rattle.pg_rows.specs.Output.{output, status}
 use Rattle.pg_base.specs.Sink.{Stream, IsBeginning, TakesPart}
-use Rattle.pg_seq.specs.Plan.{Step, Opens, MayFollow, opened, announced, entries_of}
-use Rattle.pg_seq.specs.History.{Past, Event, plan_of, taken_of, is_taken}
+use Rattle.pg_plan.specs.Plan.{Step, Opens, MayFollow, opened, announced, entries_of}
+use Rattle.pg_plan.specs.History.{Past, Event, plan_of, taken_of, is_taken}
 use Rattle.pg_seq.specs.Standing.{IsAfter}
 use Rattle.pg_run.specs.Outcome.{NoneFailed}
 use Rattle.pg_run.specs.Searches.{FindsLines}

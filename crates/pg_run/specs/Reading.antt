@@ -11,7 +11,7 @@ use Rattle.pg_rows.specs.Modes.{is_quiet}
 use Rattle.pg_base.specs.Entries.{Entry, Ending, Ended, Failed, Left}
 use Rattle.pg_rows.specs.Output.{output}
 use Rattle.pg_base.specs.Sink.{Stream, TakesPart}
-use Rattle.pg_seq.specs.Plan.{Step, Ends, is_open, opened, last_blocks, entries_of}
+use Rattle.pg_plan.specs.Plan.{Step, Ends, is_open, opened, last_blocks, entries_of}
 use Rattle.pg_files.specs.Given.{Given, File, FilesPast, AllGiven, entries_given, files_given}
 use Rattle.pg_run.specs.Lengths.{IsTooLong}
 use Rattle.pg_run.specs.Told.{told_of}

@@ -153,7 +153,7 @@ fn memory_of<A: Allocator>(block: Arc<Block<A>, A>) -> Option<Vec<u8, A>> {
 
 impl<'q, A: Allocator + Copy, Q: BlockSearch<Alloc = A>> Engine<'q, A, Q> {
     ghost use Rattle.pg_rows.specs.Enough.{is_enough};
-    ghost use Rattle.pg_seq.specs.Plan.{Step, Opens, Announces, Ends, Misses, entries_of};
+    ghost use Rattle.pg_plan.specs.Plan.{Step, Opens, Announces, Ends, Misses, entries_of};
     ghost use Rattle.pg_base.specs.Sink.{Stream};
     ghost use Rattle.pg_run.specs.Holding.{Aim, HasPlan, HasRoomInRound, IsNewEngine, IsReady, format_of};
     ghost use Rattle.pg_run.specs.Holding.{EmptiesRound, KeepsPlan, MayTakeStep, OpensFile, PlansStay};
@@ -387,7 +387,7 @@ impl<A: Allocator + Copy + Send + Sync, Q: BlockSearch<Alloc = A, Scratch: Send>
     A,
     Q,
 > {
-    ghost use Rattle.pg_seq.specs.Plan.{Step, is_open};
+    ghost use Rattle.pg_plan.specs.Plan.{Step, is_open};
     ghost use Rattle.pg_round.specs.Reading.{HasGoneOn};
     ghost use Rattle.pg_run.specs.Holding.{Aim, HasPlan, HasRoomInRound, HasSomePlan, BreaksOffInSearch};
     ghost use Rattle.pg_run.specs.Holding.{EmptiesRound, IsFinished, IsWrittenFirst, KeepsPlan};

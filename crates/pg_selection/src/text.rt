@@ -3,8 +3,8 @@ ghost use Rattle.std.specs.Prelude.{◌≡◌};
 ghost use Rattle.pg_selection.specs.Search.{HasTrees, bounds_of, terminator_of};
 
 use pg_blocks::NEWLINE;
-use pg_pattern::Bounds;
 use pg_grammar::{Kind, PatternList};
+use pg_pattern::Bounds;
 use std::alloc::{Allocator, Global};
 use std::marker::Model;
 

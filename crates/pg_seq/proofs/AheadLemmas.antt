@@ -24,9 +24,9 @@ use Rattle.pg_seq.specs.declared.opening.Opening.{Opening}
 use Rattle.pg_seq.specs.declared.slot.Slot.{Slot}
 use Rattle.pg_seq.specs.declared.reorder_buffer.ReorderBuffer.{ReorderBuffer}
 use Rattle.pg_seq.specs.declared.assembler.Assembler.{Assembler}
-use Rattle.pg_seq.specs.Plan.{Step, Opens, Announces, Ends, IsPlan, IsShaped, is_open, announced, entries_of}
-use Rattle.pg_seq.specs.History.{Past, plan, taken_of, is_taken, all_taken, front, front_after, front_of}
-use Rattle.pg_seq.specs.Cursor.{cursor_of}
+use Rattle.pg_plan.specs.Plan.{Step, Opens, Announces, Ends, IsPlan, IsShaped, is_open, announced, entries_of}
+use Rattle.pg_plan.specs.History.{Past, plan, taken_of, is_taken, all_taken, front, front_after, front_of}
+use Rattle.pg_plan.specs.Cursor.{cursor_of}
 use Rattle.pg_seq.specs.Coming.{behind, blocks_of, openings}
 use Rattle.pg_seq.specs.Slots.{slot_block, has_result, slot_selects, ready, IsResultOf}
 use Rattle.pg_seq.specs.Buffer.{HasResult}
@@ -34,8 +34,8 @@ use Rattle.pg_seq.specs.Standing.{IsAfter, opening_of}
 use Rattle.pg_seq.specs.Ahead.{HasLookedAhead, IsAtFront, is_over, block_selects, is_enough_by}
 use Rattle.pg_seq.proofs.EnoughLemmas.{suffices_by_cursor}
 use Rattle.pg_seq.proofs.FrontLemmas.{front_all, front_shaped}
-use Rattle.pg_seq.proofs.ListLemmas.{heads, tails, no_cons, or_none}
-use Rattle.pg_seq.proofs.BeginLemmas.{shape_of}
+use Rattle.pg_plan.proofs.ListLemmas.{heads, tails, no_cons, or_none}
+use Rattle.pg_plan.proofs.BeginLemmas.{shape_of}
 use Rattle.pg_seq.proofs.SelectLemmas.{runs_of, some_runs}
 use Rattle.pg_seq.proofs.ComingLemmas.{of_done, all_push, front_stops, announced_behind, rest_same, AreMissed}
 use Rattle.pg_seq.proofs.ComingLemmas.{next_file, NextStep, Nothing, Block, End, next_step, is_over as over_by}

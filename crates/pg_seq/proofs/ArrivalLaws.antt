@@ -11,9 +11,9 @@ use Rattle.pg_selection.specs.Search.{terminator}
 use Rattle.pg_selection.specs.Same.{same_text, text_equal}
 use Rattle.pg_selection.specs.Searched.{Searched}
 use Rattle.pg_blocks.specs.Blocks.{BlockData}
-use Rattle.pg_seq.specs.declared.answers.Arrival.TheVariants.{Taken, Double, Stranger}
-use Rattle.pg_seq.specs.Plan.{Step, Opens, Announces, Ends, Misses, IsShaped, opened, announced, last_blocks}
-use Rattle.pg_seq.specs.History.{Past, plan, answer, answer_after, arrival_at, is_block, is_taken, taken_of, if_same}
+use Rattle.pg_plan.specs.declared.answers.Arrival.TheVariants.{Taken, Double, Stranger}
+use Rattle.pg_plan.specs.Plan.{Step, Opens, Announces, Ends, Misses, IsShaped, opened, announced, last_blocks}
+use Rattle.pg_plan.specs.History.{Past, plan, answer, answer_after, arrival_at, is_block, is_taken, taken_of, if_same}
 
 -- a block's file was opened, and its number is below those still to come
 abbrev pub IsBelow : List Step → BlockData → Type 0

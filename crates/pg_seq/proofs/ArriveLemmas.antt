@@ -10,13 +10,13 @@ use Rattle.std.proofs.lemmas.Slice.Eq.{bytes_eq-Decides}
 use Rattle.pg_selection.specs.Search.{Search}
 use Rattle.pg_selection.specs.Searched.{Searched}
 use Rattle.pg_blocks.specs.Blocks.{BlockData}
-use Rattle.pg_seq.specs.declared.answers.Arrival.TheVariants.{Taken, Double, Stranger}
+use Rattle.pg_plan.specs.declared.answers.Arrival.TheVariants.{Taken, Double, Stranger}
 use Rattle.pg_seq.specs.declared.slot.Slot.{Slot}
-use Rattle.pg_seq.specs.History.{arrival_at, is_taken, if_same}
+use Rattle.pg_plan.specs.History.{arrival_at, is_taken, if_same}
 use Rattle.pg_seq.specs.Slots.{place_of, at_place, slot_block, has_result, arrival_at_slot}
 use Rattle.pg_seq.specs.Slots.{arrival_among, with_result, IsResultOf}
 use Rattle.pg_seq.proofs.KeyLemmas.{AreApart, is_other}
-use Rattle.pg_seq.proofs.ListLemmas.{heads, tails}
+use Rattle.pg_plan.proofs.ListLemmas.{heads, tails}
 
 taken_same : (keys : List (ℕ × ℕ)) (a b : BlockData) → a.file ≡ b.file → a.number ≡ b.number
     → is_taken keys a ≡ is_taken keys b

@@ -9,9 +9,9 @@ use Rattle.pg_blocks.specs.Blocks.{BlockData}
 use Rattle.pg_selection.specs.Search.{Search}
 use Rattle.pg_rows.specs.declared.format.Format.{Format}
 use Rattle.pg_rows.specs.Output.{output}
-use Rattle.pg_seq.specs.Plan.{Step, Opens, Announces, Ends, Misses, IsShaped, is_open, announced, entries_of}
-use Rattle.pg_seq.specs.History.{is_taken, all_taken, front}
-use Rattle.pg_seq.specs.Cursor.{cursor_of}
+use Rattle.pg_plan.specs.Plan.{Step, Opens, Announces, Ends, Misses, IsShaped, is_open, announced, entries_of}
+use Rattle.pg_plan.specs.History.{is_taken, all_taken, front}
+use Rattle.pg_plan.specs.Cursor.{cursor_of}
 use Rattle.pg_seq.specs.Coming.{behind, blocks_of, openings}
 use Rattle.pg_seq.proofs.FrontLemmas.{front_all}
 

@@ -5,7 +5,7 @@ use Rattle.std.proofs.lemmas.Bool.{cases_eq}
 use Rattle.std.proofs.lemmas.List.{length_push}
 use Rattle.std.proofs.lemmas.List.Concat.{flat_map-append}
 use Rattle.pg_blocks.specs.Blocks.{BlockData, joined}
-use Rattle.pg_seq.specs.Plan.{Step, Opens, Announces, Ends, Misses, IsPlan, opened, announced, last_blocks}
+use Rattle.pg_plan.specs.Plan.{Step, Opens, Announces, Ends, Misses, IsPlan, opened, announced, last_blocks}
 
 not_empty : (bytes : List ℕ) → bytes ≢ [] → 0 < length bytes
 not_empty [] h = absurd (h refl)

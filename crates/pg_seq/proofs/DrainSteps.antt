@@ -21,18 +21,18 @@ use Rattle.pg_rows.specs.Remembered.{IsAtCursor, opened_as, behind_block, shown_
 use Rattle.pg_seq.specs.declared.opening.Opening.{Opening}
 use Rattle.pg_seq.specs.declared.slot.Slot.{Slot}
 use Rattle.pg_seq.specs.declared.assembler.Assembler.{Assembler}
-use Rattle.pg_seq.specs.Plan.{Step, Opens, Announces, Ends, IsPlan, IsShaped, is_open, announced}
-use Rattle.pg_seq.specs.Plan.{entries_of}
-use Rattle.pg_seq.specs.History.{Past, plan, taken_of, is_taken, all_taken, front, front_after, handed, handed_after}
-use Rattle.pg_seq.specs.Cursor.{cursor_of, step_rows}
+use Rattle.pg_plan.specs.Plan.{Step, Opens, Announces, Ends, IsPlan, IsShaped, is_open, announced}
+use Rattle.pg_plan.specs.Plan.{entries_of}
+use Rattle.pg_plan.specs.History.{Past, plan, taken_of, is_taken, all_taken, front, front_after, handed, handed_after}
+use Rattle.pg_plan.specs.Cursor.{cursor_of, step_rows}
 use Rattle.pg_seq.specs.Coming.{behind, blocks_of, openings}
 use Rattle.pg_seq.specs.Slots.{slot_block, has_result, slot_selects, ready, IsResultOf}
 use Rattle.pg_seq.specs.Buffer.{SameButRoom, HandsOut, HasResult}
 use Rattle.pg_seq.specs.Standing.{IsAfter, HasWrittenAll, wrote, opening_of, is_last_block, is_at_end}
 use Rattle.pg_seq.proofs.FrontLemmas.{all_map, front_all, front_shaped}
-use Rattle.pg_seq.proofs.ListLemmas.{heads, tails, no_cons, or_none}
-use Rattle.pg_seq.proofs.BeginLemmas.{begins_trans, shape_of}
-use Rattle.pg_seq.proofs.CursorLemmas.{cursor_is, output_step, open_rows, plan_begins}
+use Rattle.pg_plan.proofs.ListLemmas.{heads, tails, no_cons, or_none}
+use Rattle.pg_plan.proofs.BeginLemmas.{begins_trans, shape_of}
+use Rattle.pg_plan.proofs.CursorLemmas.{cursor_is, output_step, open_rows, plan_begins}
 use Rattle.pg_seq.proofs.ComingLemmas.{of_done, all_push, front_stops, front_has, AreMissed, next_file}
 use Rattle.pg_seq.proofs.ComingLemmas.{is_over, NextStep, Nothing, Block, End, next_step}
 use Rattle.pg_seq.proofs.StandLemmas.{all, halves, IsAlike, rested, all_push as each_push}

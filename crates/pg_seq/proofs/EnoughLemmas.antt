@@ -9,9 +9,9 @@ use Rattle.pg_base.specs.Entries.{Entry, Missed, Read}
 use Rattle.pg_rows.specs.Output.{HasRoom}
 use Rattle.pg_rows.specs.Enough.{file_suffices, trail_suffices}
 use Rattle.pg_rows.proofs.EnoughLemmas.{suffice_by}
-use Rattle.pg_seq.specs.Plan.{Step, Opens, Announces, Ends, Misses, IsShaped, is_open, entries_of, with_end}
-use Rattle.pg_seq.specs.Cursor.{cursor_of}
-use Rattle.pg_seq.proofs.CursorLemmas.{cursor_is}
+use Rattle.pg_plan.specs.Plan.{Step, Opens, Announces, Ends, Misses, IsShaped, is_open, entries_of, with_end}
+use Rattle.pg_plan.specs.Cursor.{cursor_of}
+use Rattle.pg_plan.proofs.CursorLemmas.{cursor_is}
 
 module _ (q : Search) (format : Format) (room : HasRoom format) where
   -- while no file is open, no file's lines suffice

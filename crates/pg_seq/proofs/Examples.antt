@@ -9,9 +9,9 @@ use Rattle.std.specs.Fmt.{digits}
 use Rattle.pg_blocks.specs.Blocks.{BlockData}
 use Rattle.pg_selection.specs.Searched.{Searched}
 use Rattle.pg_selection.specs.Same.{same_text}
-use Rattle.pg_seq.specs.Plan.{Opens, Announces, Ends}
-use Rattle.pg_seq.specs.History.{Event, Planned, Arrived, answer_after, handed_after, front_after}
-use Rattle.pg_seq.specs.declared.answers.Arrival.TheVariants.{Taken, Double, Stranger}
+use Rattle.pg_plan.specs.Plan.{Opens, Announces, Ends}
+use Rattle.pg_plan.specs.History.{Event, Planned, Arrived, answer_after, handed_after, front_after}
+use Rattle.pg_plan.specs.declared.answers.Arrival.TheVariants.{Taken, Double, Stranger}
 use Rattle.pg_rows.specs.declared.format.Format.{Format}
 use Rattle.pg_rows.specs.declared.format.Mode.TheVariants.{Rows, Count, List as Names, ListOthers as Others, Quiet}
 use Rattle.pg_base.specs.Entries.{Entry, Missed, Read, Ended}

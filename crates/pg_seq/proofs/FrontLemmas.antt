@@ -5,8 +5,8 @@ use Rattle.std.specs.List.{list_all}
 use Rattle.std.proofs.lemmas.Bool.{and_from, and_parts}
 use Rattle.pg_blocks.specs.Blocks.{BlockData}
 use Rattle.pg_seq.specs.declared.slot.Slot.{Slot}
-use Rattle.pg_seq.specs.Plan.{Step, IsShaped}
-use Rattle.pg_seq.specs.History.{all_taken, front}
+use Rattle.pg_plan.specs.Plan.{Step, IsShaped}
+use Rattle.pg_plan.specs.History.{all_taken, front}
 use Rattle.pg_seq.specs.Slots.{has_result, ready}
 use Rattle.pg_seq.proofs.SlotLemmas.{cond_pos}
 

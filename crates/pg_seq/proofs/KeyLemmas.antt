@@ -7,12 +7,12 @@ use Rattle.std.proofs.lemmas.List.{length_push}
 use Rattle.pg_selection.specs.Search.{Search}
 use Rattle.pg_selection.specs.Same.{same_text}
 use Rattle.pg_blocks.specs.Blocks.{BlockData}
-use Rattle.pg_seq.specs.declared.answers.Arrival.{Arrival}
-use Rattle.pg_seq.specs.declared.answers.Arrival.TheVariants.{Taken, Double, Stranger}
-use Rattle.pg_seq.specs.Plan.{Step, Opens, Announces, Ends, Misses, IsShaped, IsNextOfFile}
-use Rattle.pg_seq.specs.Plan.{opened, announced, last_blocks}
-use Rattle.pg_seq.specs.History.{Event, Planned, Arrived, plan_of, taken_of, taken_after, arrival_at}
-use Rattle.pg_seq.specs.History.{is_block, is_taken}
+use Rattle.pg_plan.specs.declared.answers.Arrival.{Arrival}
+use Rattle.pg_plan.specs.declared.answers.Arrival.TheVariants.{Taken, Double, Stranger}
+use Rattle.pg_plan.specs.Plan.{Step, Opens, Announces, Ends, Misses, IsShaped, IsNextOfFile}
+use Rattle.pg_plan.specs.Plan.{opened, announced, last_blocks}
+use Rattle.pg_plan.specs.History.{Event, Planned, Arrived, plan_of, taken_of, taken_after, arrival_at}
+use Rattle.pg_plan.specs.History.{is_block, is_taken}
 use Rattle.pg_seq.proofs.ArrivalLaws.{IsBelow, all_below}
 
 pub find_passes : {X : Type 0} (p : X → Bool) (xs : List X) (x : X) → find p xs ≡ Some x → p x ≡ true

@@ -1,7 +1,4 @@
-pub mod ListLemmas
-pub mod CursorLemmas
 pub mod Examples
-pub mod BeginLemmas
 pub mod SlotLemmas
 pub mod SelectLemmas
 pub mod FrontLemmas

@@ -9,8 +9,8 @@ use Rattle.std.proofs.lemmas.List.{get_or_append_left, get_or_push, get_or_past,
 use Rattle.std.proofs.lemmas.List.Folds.{find-append}
 use Rattle.pg_blocks.specs.Blocks.{BlockData}
 use Rattle.std.proofs.lemmas.Option.{get_or_from_slice_get, unwrap_or-slice_get, slice_get_within}
-use Rattle.pg_seq.specs.Plan.{Step, Opens, Announces, Ends, Misses, IsShaped, opened, announced, last_blocks}
-use Rattle.pg_seq.specs.History.{is_block}
+use Rattle.pg_plan.specs.Plan.{Step, Opens, Announces, Ends, Misses, IsShaped, opened, announced, last_blocks}
+use Rattle.pg_plan.specs.History.{is_block}
 use Rattle.pg_seq.specs.Slots.{place_of, at_place}
 use Rattle.pg_seq.specs.Standing.{starts_of}
 use Rattle.pg_seq.proofs.KeyLemmas.{is_other}

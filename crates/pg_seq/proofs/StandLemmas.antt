@@ -14,8 +14,8 @@ use Rattle.pg_selection.specs.Same.{same_text, text_equal}
 use Rattle.pg_selection.specs.Searched.{Searched}
 use Rattle.pg_blocks.specs.Blocks.{BlockData, joined}
 use Rattle.pg_blocks.proofs.LineLemmas.{lines-append}
-use Rattle.pg_seq.specs.declared.answers.Arrival.{Arrival}
-use Rattle.pg_seq.specs.declared.answers.Arrival.TheVariants.{Taken, Double, Stranger}
+use Rattle.pg_plan.specs.declared.answers.Arrival.{Arrival}
+use Rattle.pg_plan.specs.declared.answers.Arrival.TheVariants.{Taken, Double, Stranger}
 use Rattle.pg_seq.specs.declared.slot.Slot.{Slot}
 use Rattle.pg_seq.specs.declared.reorder_buffer.ReorderBuffer.{ReorderBuffer}
 use Rattle.pg_seq.specs.declared.opening.Opening.{Opening}
@@ -27,15 +27,15 @@ use Rattle.pg_base.specs.Entries.{Entry, Missed, Read, Running, Ended, Failed}
 use Rattle.pg_rows.specs.Output.{HasRoom, is_bad}
 use Rattle.pg_rows.specs.Output.{has_selected}
 use Rattle.pg_rows.specs.Remembered.{IsAtCursor}
-use Rattle.pg_seq.specs.Plan.{Step, Opens, Announces, Ends, Misses, IsShaped, IsNextOfFile, IsSmall, MayFollow, is_open}
-use Rattle.pg_seq.specs.Plan.{announced, last_blocks, entries_of, with_bytes, with_end}
+use Rattle.pg_plan.specs.Plan.{Step, Opens, Announces, Ends, Misses, IsShaped, IsNextOfFile, IsSmall, MayFollow, is_open}
+use Rattle.pg_plan.specs.Plan.{announced, last_blocks, entries_of, with_bytes, with_end}
 use Rattle.std.specs.Arc.{arc_value}
 use Rattle.std.specs.Prelude.{Result, Ok, Err, OnOk, OnErr}
-use Rattle.pg_seq.specs.History.{Past, start, plan, planned, arrived, answer, answer_after, arrival_at, taken_of}
-use Rattle.pg_seq.specs.History.{taken_after, is_taken, is_block, all_taken, front_after}
-use Rattle.pg_seq.specs.History.{IsComplete, status_of}
+use Rattle.pg_plan.specs.History.{Past, start, plan, planned, arrived, answer, answer_after, arrival_at, taken_of}
+use Rattle.pg_plan.specs.History.{taken_after, is_taken, is_block, all_taken, front_after}
+use Rattle.pg_plan.specs.History.{IsComplete, status_of}
 use Rattle.pg_seq.specs.Coming.{blocks_of, openings}
-use Rattle.pg_seq.specs.Cursor.{at_start, cursor_of}
+use Rattle.pg_plan.specs.Cursor.{at_start, cursor_of}
 use Rattle.pg_seq.specs.Slots.{place_of, at_place, slot_block, has_result, arrival_among, with_result, IsResultOf}
 use Rattle.pg_seq.specs.Slots.{slot_selects, result_selects, ready}
 use Rattle.pg_seq.specs.Ahead.{block_selects}
@@ -44,12 +44,12 @@ use Rattle.pg_seq.specs.Standing.{IsAfter, HasWritten, starts_of, opening_of}
 use Rattle.pg_seq.proofs.SlotLemmas.{all_behind, cond_pos}
 use Rattle.pg_seq.proofs.FrontLemmas.{front_all, front_taken, all_map, ready_all}
 use Rattle.pg_seq.proofs.ComingLemmas.{behind_push, openings_push, announced_behind, parts_same}
-use Rattle.pg_seq.proofs.BeginLemmas.{shape_of}
-use Rattle.pg_seq.proofs.CursorLemmas.{cursor_is, closed_joined}
+use Rattle.pg_plan.proofs.BeginLemmas.{shape_of}
+use Rattle.pg_plan.proofs.CursorLemmas.{cursor_is, closed_joined}
 use Rattle.pg_seq.proofs.PlaceLemmas.{starts_length, find_place}
 use Rattle.pg_seq.proofs.KeyLemmas.{AreApart, announced_apart, find_passes, next_not_taken}
 use Rattle.pg_seq.proofs.CountLemmas.{few_blocks}
-use Rattle.pg_seq.proofs.ListLemmas.{or_none}
+use Rattle.pg_plan.proofs.ListLemmas.{or_none}
 use Rattle.pg_seq.proofs.ArriveLemmas.{at_slot, taken_means, IsTaken, block_at, piece_same, held_back, taken_one}
 use Rattle.pg_seq.proofs.ArriveLemmas.{same_blocks, results_with, stranger_taken}
 

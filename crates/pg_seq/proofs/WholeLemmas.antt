@@ -7,11 +7,11 @@ use Rattle.pg_blocks.specs.Lines.{AreWhole}
 use Rattle.pg_rows.specs.declared.format.Format.{Format}
 use Rattle.pg_base.specs.Entries.{Entry, Missed, Read, Ending, Running}
 use Rattle.pg_rows.specs.Output.{HasRoom, has_selected}
-use Rattle.pg_seq.specs.Plan.{Step, Opens, Announces, Ends, Misses, IsShaped, last_blocks, entries_of, with_bytes}
-use Rattle.pg_seq.specs.Plan.{with_end}
-use Rattle.pg_seq.specs.History.{Past, plan, taken_of, all_taken, front, front_of, front_after}
-use Rattle.pg_seq.specs.Cursor.{cursor_of}
-use Rattle.pg_seq.proofs.CursorLemmas.{cursor_is, closed_joined}
+use Rattle.pg_plan.specs.Plan.{Step, Opens, Announces, Ends, Misses, IsShaped, last_blocks, entries_of, with_bytes}
+use Rattle.pg_plan.specs.Plan.{with_end}
+use Rattle.pg_plan.specs.History.{Past, plan, taken_of, all_taken, front, front_of, front_after}
+use Rattle.pg_plan.specs.Cursor.{cursor_of}
+use Rattle.pg_plan.proofs.CursorLemmas.{cursor_is, closed_joined}
 use Rattle.pg_seq.proofs.FrontLemmas.{front_all}
 use Rattle.pg_seq.proofs.LongerLemmas.{stays_selected}
 

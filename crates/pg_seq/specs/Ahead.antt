@@ -12,9 +12,9 @@ use Rattle.pg_rows.specs.Modes.{is_quiet}
 use Rattle.pg_rows.specs.Output.{has_selected}
 use Rattle.pg_rows.specs.Progress.{IsOfTrail}
 use Rattle.pg_rows.specs.Trail.{Trail}
-use Rattle.pg_seq.specs.Plan.{Step, announced, is_open, entries_of}
-use Rattle.pg_seq.specs.History.{Past, plan, taken_of, all_taken, front_of}
-use Rattle.pg_seq.specs.Cursor.{cursor_of}
+use Rattle.pg_plan.specs.Plan.{Step, announced, is_open, entries_of}
+use Rattle.pg_plan.specs.History.{Past, plan, taken_of, all_taken, front_of}
+use Rattle.pg_plan.specs.Cursor.{cursor_of}
 use Rattle.pg_seq.specs.Coming.{behind, openings}
 use Rattle.pg_seq.specs.Standing.{IsAfter, opening_of, is_last_block}
 use Rattle.pg_seq.specs.declared.ahead.Ahead.{Ahead}

@@ -1,7 +1,7 @@
 -- The steps of a plan that are still to come, the oldest first.
 use Rattle.std.specs.Prelude.{ℕ, ◌+◌, List, [], ◌∷◌}
 use Rattle.pg_blocks.specs.Blocks.{BlockData}
-use Rattle.pg_seq.specs.Plan.{Step, Opens, Announces, Ends, Misses}
+use Rattle.pg_plan.specs.Plan.{Step, Opens, Announces, Ends, Misses}
 
 -- the plan that they give behind the steps before them, of which the newest stands first
 abbrev pub behind : List Step → List Step → List Step

@@ -1,6 +1,3 @@
-pub mod Plan
-pub mod History
-pub mod Cursor
 pub mod Coming
 pub mod Starts
 pub mod Slots

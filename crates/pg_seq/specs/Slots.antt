@@ -9,9 +9,9 @@ use Rattle.pg_blocks.specs.Lines.{lines}
 use Rattle.pg_blocks.specs.Blocks.{BlockData}
 use Rattle.pg_selection.specs.Selection.{selects}
 use Rattle.pg_selection.specs.Searched.{Searched}
-use Rattle.pg_seq.specs.History.{if_same}
-use Rattle.pg_seq.specs.declared.answers.Arrival.{Arrival}
-use Rattle.pg_seq.specs.declared.answers.Arrival.TheVariants.{Double, Stranger}
+use Rattle.pg_plan.specs.History.{if_same}
+use Rattle.pg_plan.specs.declared.answers.Arrival.{Arrival}
+use Rattle.pg_plan.specs.declared.answers.Arrival.TheVariants.{Double, Stranger}
 use Rattle.pg_seq.specs.declared.slot.Slot.{Slot}
 
 -- where a file's block stands among all announced blocks, by the files' starts and the number of all blocks

@@ -1,6 +1,6 @@
 -- How a sequencer stands after what happened to it.
-use Rattle.std.specs.Prelude.{◌≡◌, ℕ, ◌+◌, ◌*◌, ◌<◌, ◌≤◌, ◌==◌, Bool, true, false, not, ◌&&◌, ◌||◌, if◌then◌else◌}
-use Rattle.std.specs.Prelude.{Result, Ok, Err, MatchResult, IfOk, OnOk, OnErr, IsErrOf, Option, MatchOption, MatchBool}
+use Rattle.std.specs.Prelude.{◌≡◌, ℕ, ◌+◌, ◌*◌, ◌<◌, ◌≤◌, ◌==◌, Bool, true, false, not, ◌&&◌, if◌then◌else◌}
+use Rattle.std.specs.Prelude.{Result, MatchResult, IfOk, OnOk, OnErr, IsErrOf, Option, MatchOption, MatchBool}
 use Rattle.std.specs.Prelude.{List, [], ◌∷◌, ◌++◌, map, length}
 use Rattle.std.specs.List.{AllByRecursion, list_any}
 use Rattle.std.specs.Arc.{arc_value}
@@ -11,18 +11,19 @@ use Rattle.pg_rows.specs.Enough.{is_enough}
 use Rattle.pg_rows.specs.Output.{HasRoom, is_bad, output}
 use Rattle.pg_rows.specs.Remembered.{IsAtCursor}
 use Rattle.pg_base.specs.Sink.{Stream, WritesAll, IsBeginning}
-use Rattle.pg_seq.specs.Plan.{Step, Opens, Announces, Ends, Misses, announced, IsPlan, MayFollow, is_open, entries_of}
-use Rattle.pg_seq.specs.History.{Past, start, plan, planned, arrived, answer, taken_of, is_taken, front_of, handed}
-use Rattle.pg_seq.specs.History.{IsComplete, status_of}
-use Rattle.pg_seq.specs.Cursor.{cursor_of}
+use Rattle.pg_plan.specs.Plan.{Step, Opens, Announces, Ends, Misses, announced, IsPlan, MayFollow, is_open, entries_of}
+use Rattle.pg_plan.specs.History.{Past, start, plan, planned, arrived, answer, taken_of, is_taken, front_of, handed}
+use Rattle.pg_plan.specs.History.{IsComplete, status_of}
+use Rattle.pg_plan.specs.Cursor.{cursor_of}
+use Rattle.pg_plan.specs.Drains.{Drained, drained}
 use Rattle.pg_seq.specs.Coming.{behind, openings}
 use Rattle.pg_seq.specs.Slots.{slot_block, has_result, slot_selects, IsResultOf}
 use Rattle.pg_seq.specs.Buffer.{AreGone}
 use Rattle.pg_seq.specs.declared.opening.Opening.{Opening}
 use Rattle.pg_seq.specs.declared.slot.Slot.{Slot}
-use Rattle.pg_seq.specs.declared.answers.Arrival.TheVariants.{Taken}
-use Rattle.pg_seq.specs.declared.answers.SinkFault.{SinkFault}
-use Rattle.pg_seq.specs.declared.answers.SinkFault.TheVariants.{WriteFailed, Failed}
+use Rattle.pg_plan.specs.declared.answers.Arrival.TheVariants.{Taken}
+use Rattle.pg_plan.specs.declared.answers.SinkFault.{SinkFault}
+use Rattle.pg_plan.specs.declared.answers.SinkFault.TheVariants.{WriteFailed}
 use Rattle.pg_seq.specs.declared.assembler.Assembler.{Assembler}
 
 -- how many blocks were announced before each file that was opened, in the files' order
@@ -119,19 +120,6 @@ TellsEnough s enough = (past : Past) → IsAfter s past →
 abbrev pub TellsStatus : {A : Type 0} → Assembler A → Option ℕ → Type 0
 TellsStatus s told = (past : Past) → IsAfter s past →
     MatchOption told (IsComplete past → ⊥) (λ status. IsComplete past × (status ≡ status_of past))
-
--- what a drain did that wrote a text
-abbrev pub Drained : Result (Unit {0}) SinkFault → Past → List ℕ → Type 0
-Drained (Ok u) past text = (past.failed ≡ false) × (past.written ++ text ≡ handed past)
-Drained (Err WriteFailed) past text = (past.failed ≡ false) × IsBeginning (past.written ++ text) (handed past)
-Drained (Err Failed) past text = (past.failed ≡ true) × (text ≡ [])
-
-abbrev pub fails : Result (Unit {0}) SinkFault → Bool
-fails (Ok u) = false
-fails (Err fault) = true
-
-abbrev pub drained : Past → List ℕ → Result (Unit {0}) SinkFault → Past
-drained past text result = record past { written = past.written ++ text; failed = past.failed || fails result }
 
 -- A drain did so, behind each past after which it stood. Where it tells of a write that failed in it, the sink has
 -- counted a failure, and where it tells of none, no failure.

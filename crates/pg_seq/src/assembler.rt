@@ -4,11 +4,11 @@ ghost use Rattle.std.specs.Arc.{arc_value};
 ghost use Rattle.pg_rows.specs.Modes.{is_quiet};
 
 use crate::ahead::Ahead;
-use crate::answers::{Arrival, SinkFault};
 use crate::opening::Opening;
 use crate::reorder_buffer::ReorderBuffer;
 use pg_base::{Sink, WriteError};
 use pg_blocks::Block;
+use pg_plan::{Arrival, SinkFault};
 use pg_rows::{Format, Mode, Prefix, Printer, Progress};
 use pg_selection::{BlockResult, Selector};
 use std::alloc::{AllocError, Allocator, Global};
@@ -71,8 +71,8 @@ impl<A: Allocator> Drop for Assembler<A> {
 
 impl<A: Allocator> Assembler<A> {
     ghost use Rattle.pg_rows.specs.Output.{HasRoom};
-    ghost use Rattle.pg_seq.specs.Plan.{Opens, Announces, Ends, Misses};
-    ghost use Rattle.pg_seq.specs.History.{Past, planned, arrived, answer, IsComplete};
+    ghost use Rattle.pg_plan.specs.Plan.{Opens, Announces, Ends, Misses};
+    ghost use Rattle.pg_plan.specs.History.{Past, planned, arrived, answer, IsComplete};
     ghost use Rattle.pg_seq.specs.Standing.{IsAfter, HasPast, IsAtStart, MayPlan, PlansAtOk, PlansAtOkIfReady};
     ghost use Rattle.pg_seq.specs.Standing.{StaysAtErr, MayKeep, Keeps, Drains, TellsEnough, TellsStatus};
     ghost use Rattle.pg_seq.specs.Standing.{is_at_end, MayWrite, TakesOneStep, OpensNext};

@@ -9,12 +9,12 @@ ghost use Rattle.pg_rows.specs.Modes.{is_quiet};
 ghost use Rattle.pg_base.specs.Entries.{Entry};
 ghost use Rattle.pg_rows.specs.Output.{HasRoom, has_separators, has_selected, output, status};
 ghost use Rattle.pg_rows.specs.Enough.{lines_suffice};
-ghost use Rattle.pg_seq.specs.Plan.{IsPlan, Begins, announced, entries_of};
-ghost use Rattle.pg_seq.specs.History.{Past, IsComplete, plan, handed, answer, is_taken, taken_of};
+ghost use Rattle.pg_plan.specs.Plan.{IsPlan, Begins, announced, entries_of};
+ghost use Rattle.pg_plan.specs.History.{Past, IsComplete, plan, handed, answer, is_taken, taken_of};
 ghost use Rattle.pg_base.specs.Sink.{IsBeginning};
 ghost use Rattle.pg_seq.specs.Settled.{IsSettled, AreLeftRightly, MayBeLonger, GiveTheSame, ChangeNothing};
 ghost use Rattle.pg_seq.specs.Shares.{joined_output, joined_status};
-ghost use Rattle.pg_seq.specs.declared.answers.Arrival.TheVariants.{Taken};
+ghost use Rattle.pg_plan.specs.declared.answers.Arrival.TheVariants.{Taken};
 
 /// What may be handed out is a beginning of the output of every list of files that the plan begins.
 pub fn handed_out_begins()

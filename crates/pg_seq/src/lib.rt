@@ -6,8 +6,8 @@
 #![tactic(auto)]
 
 mod ahead;
-mod answers;
 mod assembler;
+mod collecting;
 mod file_starts;
 mod laws;
 mod opening;
@@ -15,9 +15,9 @@ mod reorder_buffer;
 mod sequencer;
 mod slot;
 
-pub use answers::{Arrival, SinkFault};
 pub use laws::{
     complete_output_is_whole, first_arrival_is_taken, handed_out_begins, later_files_stay_unread,
     left_files_may_be_longer, lines_that_suffice_settle,
 };
+pub use pg_plan::{Arrival, SinkFault};
 pub use sequencer::Sequencer;

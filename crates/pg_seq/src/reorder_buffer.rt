@@ -5,10 +5,10 @@ ghost use Rattle.std.specs.List.{AllByRecursion, list_all, list_any};
 ghost use Rattle.std.specs.Arc.{arc_value};
 ghost use Rattle.pg_seq.specs.Slots.{place_of};
 
-use crate::answers::Arrival;
 use crate::file_starts::FileStarts;
 use crate::slot::Slot;
 use pg_blocks::Block;
+use pg_plan::Arrival;
 use pg_selection::BlockResult;
 use std::alloc::{AllocError, Allocator, Global};
 use std::collections::VecDeque;

@@ -2,10 +2,10 @@
 ghost use Rattle.std.specs.Prelude.{◌≡◌, ◌↔◌, IsTrue, IfOk};
 ghost use Rattle.std.specs.Arc.{arc_value};
 
-use crate::answers::{Arrival, SinkFault};
 use crate::assembler::Assembler;
 use pg_base::Sink;
 use pg_blocks::Block;
+use pg_plan::{Arrival, SinkFault};
 use pg_rows::Format;
 use pg_selection::{BlockResult, Selector};
 use std::alloc::{AllocError, Allocator, Global};
@@ -28,7 +28,7 @@ pub struct Sequencer<A: Allocator = Global> {
 }
 
 impl<A: Allocator> Model for Sequencer<A> {
-    ghost use Rattle.pg_seq.specs.History.{Past};
+    ghost use Rattle.pg_plan.specs.History.{Past};
     ghost use Rattle.pg_seq.specs.Standing.{IsAfter};
     ghost use Rattle.pg_seq.specs.declared.assembler.Assembler.{Assembler};
 
@@ -41,8 +41,8 @@ impl<A: Allocator> Model for Sequencer<A> {
 
 impl<A: Allocator> Sequencer<A> {
     ghost use Rattle.pg_rows.specs.Output.{HasRoom};
-    ghost use Rattle.pg_seq.specs.Plan.{Opens, Announces, Ends, Misses};
-    ghost use Rattle.pg_seq.specs.History.{Past, planned, arrived, answer, IsComplete};
+    ghost use Rattle.pg_plan.specs.Plan.{Opens, Announces, Ends, Misses};
+    ghost use Rattle.pg_plan.specs.History.{Past, planned, arrived, answer, IsComplete};
     ghost use Rattle.pg_seq.specs.Standing.{IsAfter, IsAtStart, MayPlan, PlansAtOk, PlansAtOkIfReady, StaysAtErr};
     ghost use Rattle.pg_seq.specs.Standing.{MayKeep, Keeps, Drains, TellsEnough, TellsStatus};
 

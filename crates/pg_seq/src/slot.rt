@@ -2,8 +2,8 @@
 ghost use Rattle.std.specs.Prelude.{◌≡◌};
 ghost use Rattle.pg_seq.specs.Slots.{TellsSelected, slot_arrival};
 
-use crate::answers::Arrival;
 use pg_blocks::Block;
+use pg_plan::Arrival;
 use pg_selection::BlockResult;
 use std::alloc::{Allocator, Global};
 use std::sync::Arc;

@@ -8,8 +8,8 @@ use Rattle.pg_blocks.specs.Lines.{lines}
 use Rattle.pg_blocks.specs.Blocks.{BlockData, joined, EndsWith}
 use Rattle.pg_selection.specs.Search.{terminator}
 use Rattle.pg_selection.specs.Searched.{Searched}
-use Rattle.pg_seq.specs.Plan.{Opens, Announces, Ends, Misses, MayFollow, last_blocks}
-use Rattle.pg_seq.specs.History.{planned, arrived, plan}
+use Rattle.pg_plan.specs.Plan.{Opens, Announces, Ends, Misses, MayFollow, last_blocks}
+use Rattle.pg_plan.specs.History.{planned, arrived, plan}
 use Rattle.pg_seq.specs.Standing.{IsAfter}
 use Rattle.pg_seq.specs.declared.assembler.Assembler.{Assembler}
 use Rattle.pg_tests.specs.Reading.{IsBlock, IsBetween, IsReading}

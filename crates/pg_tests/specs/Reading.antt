@@ -3,8 +3,8 @@ use Rattle.std.specs.Prelude.{◌≡◌, ℕ, ◌+◌, ◌*◌, ◌≤◌, true,
 use Rattle.std.specs.List.{AllByRecursion}
 use Rattle.pg_blocks.specs.Blocks.{EndsWith, joined}
 use Rattle.pg_selection.specs.Search.{terminator}
-use Rattle.pg_seq.specs.Plan.{is_open, opened, last_blocks}
-use Rattle.pg_seq.specs.History.{Past, plan}
+use Rattle.pg_plan.specs.Plan.{is_open, opened, last_blocks}
+use Rattle.pg_plan.specs.History.{Past, plan}
 use Rattle.pg_seq.specs.Standing.{IsAfter}
 use Rattle.pg_seq.specs.declared.assembler.Assembler.{Assembler}
 

@@ -2,8 +2,8 @@
 ghost use Rattle.std.specs.Prelude.{◌≡◌};
 ghost use Rattle.pg_rows.specs.Output.{HasRoom};
 
-use pg_rows::{Format, Mode, Separator};
 use pg_grammar::Kind;
+use pg_rows::{Format, Mode, Separator};
 
 /// When rows and counts begin with the file's name.
 #[derive(Clone, Copy)]

@@ -3,8 +3,8 @@ ghost use Rattle.std.specs.Prelude.{◌<◌, ◌≤◌, ◌+◌, ◌^◌, vec_le
 ghost use Rattle.pg_rows.specs.Output.{HasRoom};
 
 use crate::options::{Coloring, DeviceAction, Naming};
-use pg_rows::Format;
 use pg_grammar::Kind;
+use pg_rows::Format;
 
 /// Which files are searched, by their names.
 #[derive(Clone, Copy)]

@@ -1,7 +1,7 @@
 use Rattle.std.proofs.Common.{[], subst}
 use Rattle.std.proofs.lemmas.Result.{err_from_is_err_and}
 use Rattle.pg_selection.specs.Searched.{Searched}
-use Rattle.pg_seq.specs.History.{arrived}
+use Rattle.pg_plan.specs.History.{arrived}
 use Rattle.pg_round.specs.Receipts.{HasWritten}
 use Rattle.pg_round.proofs.DrainLemmas.{drain_writes, drain_breaks}
 use Rattle.pg_round.proofs.ReceiptLemmas.{takes_arrival}

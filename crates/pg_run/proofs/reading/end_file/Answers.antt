@@ -1,5 +1,5 @@
 use Rattle.std.proofs.Common.{◌∷◌, refl}
-use Rattle.pg_seq.specs.Plan.{Ends}
+use Rattle.pg_plan.specs.Plan.{Ends}
 use Rattle.pg_run.proofs.HoldLemmas.{fails_by}
 use Rattle.pg_run.proofs.ReadingLemmas.{file_ended, ended_breaks}
 use Rattle.pg_run.proofs.reading.end_file.Goals as goal

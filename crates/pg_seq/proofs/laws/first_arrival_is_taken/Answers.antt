@@ -1,7 +1,7 @@
 use Rattle.pg_selection.specs.Search.{terminator}
-use Rattle.pg_seq.specs.History.{plan}
+use Rattle.pg_plan.specs.History.{plan}
 use Rattle.pg_seq.proofs.ArrivalLaws.{first_is_taken}
-use Rattle.pg_seq.proofs.BeginLemmas.{shape_of}
+use Rattle.pg_plan.proofs.BeginLemmas.{shape_of}
 use Rattle.pg_seq.proofs.laws.first_arrival_is_taken.Goals as goal
 
 pub returns : goal.returns

@@ -1,6 +1,6 @@
 use Rattle.pg_selection.specs.Search.{terminator}
-use Rattle.pg_seq.specs.History.{plan}
-use Rattle.pg_seq.proofs.BeginLemmas.{handed_begins, shape_of}
+use Rattle.pg_plan.specs.History.{plan}
+use Rattle.pg_plan.proofs.BeginLemmas.{handed_begins, shape_of}
 use Rattle.pg_seq.proofs.laws.handed_out_begins.Goals as goal
 
 pub returns : goal.returns

@@ -1,7 +1,7 @@
 use Rattle.std.proofs.Common.{◌≡◌, cond, refl, ap, sym, subst, ◌∙◌}
 use Rattle.std.specs.Arc.{arc_value}
 use Rattle.pg_selection.specs.Search.{SearchText, AreTreesOf, search_of}
-use Rattle.pg_seq.specs.History.{start}
+use Rattle.pg_plan.specs.History.{start}
 use Rattle.pg_tests.proofs.planning.new_sequencer.Goals as goal
 
 pub returns : goal.returns

@@ -3,8 +3,8 @@ use Rattle.std.specs.Arc.{arc_value}
 use Rattle.std.proofs.lemmas.List.{map-append}
 use Rattle.pg_selection.specs.Search.{terminator}
 use Rattle.pg_blocks.specs.Blocks.{BlockData}
-use Rattle.pg_seq.specs.Plan.{Announces, MayFollow}
-use Rattle.pg_seq.specs.History.{plan, planned}
+use Rattle.pg_plan.specs.Plan.{Announces, MayFollow}
+use Rattle.pg_plan.specs.History.{plan, planned}
 use Rattle.pg_seq.specs.Standing.{IsAfter}
 use Rattle.pg_run.specs.Holding.{past_of, format_of}
 use Rattle.pg_run.proofs.HoldLemmas.{may_past, ok_of_err, holds_waiting}

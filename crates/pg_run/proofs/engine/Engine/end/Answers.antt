@@ -1,4 +1,4 @@
-use Rattle.pg_seq.specs.Plan.{Ends}
+use Rattle.pg_plan.specs.Plan.{Ends}
 use Rattle.pg_run.specs.Holding.{past_of, format_of}
 use Rattle.pg_run.proofs.HoldLemmas.{holds_step}
 use Rattle.pg_run.proofs.engine.Engine.end.Goals as goal

@@ -1,6 +1,6 @@
 use Rattle.std.proofs.Common.{◌∙◌, ap, map, not, sym}
 use Rattle.std.specs.Arc.{arc_value}
-use Rattle.pg_seq.specs.Plan.{entries_of}
+use Rattle.pg_plan.specs.Plan.{entries_of}
 use Rattle.pg_run.specs.Endless.{is_endless}
 use Rattle.pg_run.specs.Holding.{past_of, format_of}
 use Rattle.pg_run.proofs.EndlessLemmas.{never_enough}

@@ -1,7 +1,7 @@
 use Rattle.std.proofs.Common.{◌≡◌, ◌∙◌, ap, map, subst, Option, ℕ}
 use Rattle.std.specs.Arc.{arc_value}
 use Rattle.std.specs.Option.{MatchOption}
-use Rattle.pg_seq.specs.History.{IsComplete, status_of}
+use Rattle.pg_plan.specs.History.{IsComplete, status_of}
 use Rattle.pg_run.specs.Holding.{past_of, format_of}
 use Rattle.pg_run.proofs.HoldLemmas.{complete_is, status_is, some_status, fails_by}
 use Rattle.pg_run.proofs.engine.Engine.finish.Goals as goal

@@ -1,5 +1,5 @@
 use Rattle.pg_base.proofs.SinkLemmas.{on_ok}
-use Rattle.pg_seq.specs.Plan.{Misses}
+use Rattle.pg_plan.specs.Plan.{Misses}
 use Rattle.pg_run.specs.Holding.{past_of, format_of}
 use Rattle.pg_run.proofs.HoldLemmas.{holds_step}
 use Rattle.pg_run.proofs.engine.Engine.miss.Goals as goal

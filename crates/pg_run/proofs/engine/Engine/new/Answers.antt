@@ -2,7 +2,7 @@ use Rattle.std.proofs.Common.{◌≡◌, ◌∙◌, ap, arith, length, map, refl
 use Rattle.std.specs.Arc.{arc_value}
 use Rattle.pg_selection.specs.Search.{SearchText, AreTreesOf, search_of, terminator_of}
 use Rattle.pg_rows.specs.declared.format.Format.{Format}
-use Rattle.pg_seq.specs.History.{start}
+use Rattle.pg_plan.specs.History.{start}
 use Rattle.pg_seq.specs.Standing.{IsAfter}
 use Rattle.pg_run.specs.Searches.{FindsLines}
 use Rattle.pg_run.proofs.HoldLemmas.{holds_new}

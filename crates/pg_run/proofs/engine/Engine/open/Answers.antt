@@ -1,5 +1,5 @@
 use Rattle.std.proofs.Common.{◌+◌, ap, rules}
-use Rattle.pg_seq.specs.Plan.{Opens}
+use Rattle.pg_plan.specs.Plan.{Opens}
 use Rattle.pg_run.specs.Holding.{past_of, format_of}
 use Rattle.pg_run.proofs.HoldLemmas.{holds_step}
 use Rattle.std.proofs.lemmas.Result.{IfOk-from_err}

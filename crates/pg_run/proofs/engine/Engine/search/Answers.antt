@@ -1,6 +1,6 @@
 use Rattle.std.proofs.Common.{◌∙◌, ◌∷◌, sym}
 use Rattle.std.proofs.lemmas.Bool.{false≢true}
-use Rattle.pg_seq.specs.Plan.{Announces}
+use Rattle.pg_plan.specs.Plan.{Announces}
 use Rattle.pg_run.proofs.HoldLemmas.{broke_step, fails_by}
 use Rattle.pg_run.proofs.engine.Engine.search.Goals as goal
 

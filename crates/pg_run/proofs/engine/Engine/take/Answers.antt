@@ -2,8 +2,8 @@ use Rattle.std.proofs.Common.{◌≡◌, ◌∙◌, ap, map, subst, sym}
 use Rattle.std.specs.Arc.{arc_value}
 use Rattle.pg_selection.specs.Search.{terminator}
 use Rattle.pg_blocks.specs.Blocks.{BlockData}
-use Rattle.pg_seq.specs.Plan.{Announces, MayFollow}
-use Rattle.pg_seq.specs.History.{plan, planned}
+use Rattle.pg_plan.specs.Plan.{Announces, MayFollow}
+use Rattle.pg_plan.specs.History.{plan, planned}
 use Rattle.pg_seq.specs.Standing.{IsAfter}
 use Rattle.pg_run.specs.Holding.{past_of, format_of}
 use Rattle.pg_run.proofs.HoldLemmas.{may_past, is_first, holds_block, ok_of_err}

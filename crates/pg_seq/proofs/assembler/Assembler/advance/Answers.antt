@@ -5,7 +5,7 @@ use Rattle.std.proofs.lemmas.Result.{MatchResult-from_err, IfOk-from_err}
 use Rattle.pg_rows.specs.Remembered.{end_rows}
 use Rattle.pg_base.specs.Sink.{Stream, WritesAll, WritesPart}
 use Rattle.pg_base.proofs.WriteLemmas.{wrote_none}
-use Rattle.pg_seq.specs.History.{Past}
+use Rattle.pg_plan.specs.History.{Past}
 use Rattle.pg_seq.specs.declared.assembler.Assembler.{Assembler}
 use Rattle.pg_seq.specs.Standing.{IsAfter, Advances, HasNothingToDo, HasWrittenAll}
 use Rattle.pg_seq.proofs.StandLemmas.{same_buffer}

@@ -1,5 +1,5 @@
 use Rattle.std.proofs.Common.{refl, sym}
-use Rattle.pg_seq.specs.declared.answers.Arrival.TheVariants.{Double, Stranger}
+use Rattle.pg_plan.specs.declared.answers.Arrival.TheVariants.{Double, Stranger}
 use Rattle.pg_seq.proofs.StandLemmas.{kept_stands, taken_stands}
 use Rattle.pg_seq.proofs.assembler.Assembler.arrive.Goals as goal
 

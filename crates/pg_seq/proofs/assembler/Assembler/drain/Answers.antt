@@ -3,10 +3,10 @@ use Rattle.std.proofs.Common.{append_assoc}
 use Rattle.std.proofs.lemmas.Bool.{MatchBool-at_true, MatchBool-at_false, or_right}
 use Rattle.std.proofs.lemmas.List.{append-nil}
 use Rattle.pg_base.proofs.WriteLemmas.{wrote_none, wrote_more}
-use Rattle.pg_seq.specs.History.{Past}
+use Rattle.pg_plan.specs.History.{Past}
 use Rattle.pg_seq.specs.declared.assembler.Assembler.{Assembler}
 use Rattle.pg_seq.specs.Standing.{IsAfter, wrote}
-use Rattle.pg_seq.proofs.ListLemmas.{or_none}
+use Rattle.pg_plan.proofs.ListLemmas.{or_none}
 use Rattle.pg_seq.proofs.StandLemmas.{same_buffer, failed_stands}
 use Rattle.pg_seq.proofs.assembler.Assembler.drain.Goals as goal
 

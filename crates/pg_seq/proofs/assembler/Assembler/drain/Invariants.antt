@@ -1,6 +1,6 @@
 use Rattle.std.proofs.Common.{◌≡◌, ℕ, List, false}
 use Rattle.pg_base.specs.Sink.{WritesAll}
-use Rattle.pg_seq.specs.History.{Past}
+use Rattle.pg_plan.specs.History.{Past}
 use Rattle.pg_seq.specs.Standing.{IsAfter, wrote, left}
 use Rattle.pg_seq.proofs.assembler.Assembler.drain.Given as goal
 

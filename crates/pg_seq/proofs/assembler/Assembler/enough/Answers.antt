@@ -2,8 +2,8 @@ use Rattle.std.proofs.Common.{◌∙◌, ap, sym, subst, refl}
 use Rattle.pg_rows.specs.declared.format.Format.{Format}
 use Rattle.pg_rows.specs.Progress.{IsOfTrail}
 use Rattle.pg_seq.specs.Ahead.{is_enough_by}
-use Rattle.pg_seq.specs.Cursor.{cursor_of}
-use Rattle.pg_seq.specs.History.{front_of}
+use Rattle.pg_plan.specs.Cursor.{cursor_of}
+use Rattle.pg_plan.specs.History.{front_of}
 use Rattle.pg_seq.proofs.AheadLemmas.{at_first, front_enough}
 use Rattle.pg_seq.proofs.assembler.Assembler.enough.Goals as goal
 

@@ -1,4 +1,4 @@
-use Rattle.pg_seq.specs.History.{Past}
+use Rattle.pg_plan.specs.History.{Past}
 use Rattle.pg_seq.specs.Standing.{IsAfter}
 use Rattle.pg_seq.specs.Ahead.{HasLookedAhead, left_ahead}
 use Rattle.pg_seq.proofs.assembler.Assembler.enough.Given as goal

@@ -1,7 +1,7 @@
 use Rattle.std.proofs.Common.{◌∙◌, ◌++◌, [], ◌∷◌, ap, refl, length, arith}
 use Rattle.pg_base.proofs.SinkLemmas.{on_err}
 use Rattle.pg_seq.specs.declared.opening.Opening.{Opening}
-use Rattle.pg_seq.specs.History.{plan}
+use Rattle.pg_plan.specs.History.{plan}
 use Rattle.pg_seq.proofs.PlaceLemmas.{starts_length}
 use Rattle.pg_seq.proofs.StandLemmas.{same_buffer, may_open, opened_stands, same_stands}
 use Rattle.pg_seq.proofs.assembler.Assembler.open.Goals as goal

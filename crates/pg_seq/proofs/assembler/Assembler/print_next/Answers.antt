@@ -9,11 +9,11 @@ use Rattle.pg_rows.specs.Remembered.{IsAtCursor, IsRememberedBehind, behind_bloc
 use Rattle.pg_seq.specs.declared.slot.Slot.{Slot}
 use Rattle.pg_seq.specs.declared.reorder_buffer.ReorderBuffer.{ReorderBuffer}
 use Rattle.pg_seq.specs.declared.assembler.Assembler.{Assembler}
-use Rattle.pg_seq.specs.History.{Past}
+use Rattle.pg_plan.specs.History.{Past}
 use Rattle.pg_seq.specs.Slots.{slot_block}
 use Rattle.pg_seq.specs.Buffer.{HasResult}
 use Rattle.pg_seq.specs.Standing.{IsAfter}
-use Rattle.pg_seq.proofs.ListLemmas.{heads}
+use Rattle.pg_plan.proofs.ListLemmas.{heads}
 use Rattle.pg_seq.proofs.StandLemmas.{same_buffer, same_stands}
 use Rattle.pg_seq.proofs.DrainSteps.{here, none_ready, result_is, lines_fit, bytes_fit, printed_next}
 use Rattle.pg_seq.proofs.DrainSteps.{block_part}

@@ -1,6 +1,6 @@
 use Rattle.std.proofs.Common.{◌∙◌, ◌&&◌, ap, sym, cond}
 use Rattle.pg_rows.specs.Modes.{is_quiet}
-use Rattle.pg_seq.specs.History.{IsComplete}
+use Rattle.pg_plan.specs.History.{IsComplete}
 use Rattle.pg_seq.proofs.StandLemmas.{held_results, status_is}
 use Rattle.pg_seq.proofs.assembler.Assembler.status.Goals as goal
 

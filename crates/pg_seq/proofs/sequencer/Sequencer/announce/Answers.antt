@@ -2,8 +2,8 @@ use Rattle.std.proofs.Common.{sym, subst}
 use Rattle.pg_seq.specs.declared.assembler.Assembler.{Assembler}
 use Rattle.pg_seq.specs.Standing.{IsAfter}
 use Rattle.std.specs.Arc.{arc_value}
-use Rattle.pg_seq.specs.Plan.{Announces}
-use Rattle.pg_seq.specs.History.{planned}
+use Rattle.pg_plan.specs.Plan.{Announces}
+use Rattle.pg_plan.specs.History.{planned}
 use Rattle.pg_seq.proofs.StandLemmas.{some_past}
 use Rattle.pg_seq.proofs.sequencer.Sequencer.announce.Goals as goal
 

@@ -1,4 +1,4 @@
-use Rattle.pg_seq.specs.History.{arrived}
+use Rattle.pg_plan.specs.History.{arrived}
 use Rattle.pg_seq.proofs.sequencer.Sequencer.arrive.Goals as goal
 
 pub invariant_of-self : goal.invariant_of-self

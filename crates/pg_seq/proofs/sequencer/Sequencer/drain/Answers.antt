@@ -1,4 +1,4 @@
-use Rattle.pg_seq.specs.Standing.{drained}
+use Rattle.pg_plan.specs.Drains.{drained}
 use Rattle.pg_seq.proofs.sequencer.Sequencer.drain.Goals as goal
 
 pub invariant_of-self : goal.invariant_of-self

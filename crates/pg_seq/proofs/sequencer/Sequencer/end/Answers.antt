@@ -1,5 +1,5 @@
-use Rattle.pg_seq.specs.Plan.{Ends}
-use Rattle.pg_seq.specs.History.{planned}
+use Rattle.pg_plan.specs.Plan.{Ends}
+use Rattle.pg_plan.specs.History.{planned}
 use Rattle.pg_seq.proofs.sequencer.Sequencer.end.Goals as goal
 
 pub invariant_of-self : goal.invariant_of-self

@@ -1,6 +1,6 @@
 use Rattle.std.proofs.Common.{sym, subst, rules}
 use Rattle.pg_seq.specs.declared.assembler.Assembler.{Assembler}
-use Rattle.pg_seq.specs.History.{arrived}
+use Rattle.pg_plan.specs.History.{arrived}
 use Rattle.pg_seq.specs.Standing.{IsAfter}
 use Rattle.pg_seq.proofs.sequencer.Sequencer.keep.Goals as goal
 

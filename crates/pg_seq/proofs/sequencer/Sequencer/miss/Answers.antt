@@ -1,5 +1,5 @@
-use Rattle.pg_seq.specs.Plan.{Misses}
-use Rattle.pg_seq.specs.History.{planned}
+use Rattle.pg_plan.specs.Plan.{Misses}
+use Rattle.pg_plan.specs.History.{planned}
 use Rattle.pg_seq.proofs.StandLemmas.{some_past}
 use Rattle.pg_seq.proofs.sequencer.Sequencer.miss.Goals as goal
 

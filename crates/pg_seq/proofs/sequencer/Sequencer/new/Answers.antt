@@ -1,7 +1,7 @@
 use Rattle.std.proofs.Common.{subst}
 use Rattle.std.specs.Arc.{arc_value}
 use Rattle.pg_selection.specs.Search.{SearchText, HasTrees, search_of}
-use Rattle.pg_seq.specs.History.{start}
+use Rattle.pg_plan.specs.History.{start}
 use Rattle.pg_seq.proofs.sequencer.Sequencer.new.Goals as goal
 
 pub invariant_of-result : goal.invariant_of-result

@@ -1,5 +1,5 @@
-use Rattle.pg_seq.specs.Plan.{Opens}
-use Rattle.pg_seq.specs.History.{planned}
+use Rattle.pg_plan.specs.Plan.{Opens}
+use Rattle.pg_plan.specs.History.{planned}
 use Rattle.pg_seq.proofs.StandLemmas.{some_past}
 use Rattle.pg_seq.proofs.sequencer.Sequencer.open.Goals as goal
 

@@ -7,10 +7,10 @@ use Rattle.pg_selection.specs.Same.{same_text}
 use Rattle.pg_blocks.specs.Blocks.{BlockData}
 use Rattle.pg_selection.specs.Searched.{Searched}
 use Rattle.pg_rows.specs.declared.format.Format.{Format}
-use Rattle.pg_seq.specs.declared.answers.Arrival.{Arrival}
-use Rattle.pg_seq.specs.declared.answers.Arrival.TheVariants.{Taken, Double, Stranger}
+use Rattle.pg_plan.specs.declared.answers.Arrival.{Arrival}
+use Rattle.pg_plan.specs.declared.answers.Arrival.TheVariants.{Taken, Double, Stranger}
 use Rattle.pg_rows.specs.Output.{output, status}
-use Rattle.pg_seq.specs.Plan.{Step, announced, entries_of, is_open}
+use Rattle.pg_plan.specs.Plan.{Step, announced, entries_of, is_open}
 
 -- an accepted plan call, or an arrival
 pub data Event : Type 0 where

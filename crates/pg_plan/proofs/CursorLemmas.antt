@@ -15,12 +15,12 @@ use Rattle.pg_rows.specs.Modes.{shows_rows, end_row, rows_in}
 use Rattle.pg_base.specs.Entries.{Entry, Read, Running, Ended, Failed, is_running}
 use Rattle.pg_rows.specs.Output.{output, file_rows}
 use Rattle.pg_rows.specs.Output.{is_below, line_rows, piece_rows, count_row, name_row}
-use Rattle.pg_seq.specs.Plan.{Step, Opens, Announces, Ends, Misses, IsShaped, is_open, last_blocks, entries_of}
-use Rattle.pg_seq.specs.Plan.{with_bytes, with_end}
+use Rattle.pg_plan.specs.Plan.{Step, Opens, Announces, Ends, Misses, IsShaped, is_open, last_blocks, entries_of}
+use Rattle.pg_plan.specs.Plan.{with_bytes, with_end}
 use Rattle.pg_base.specs.Sink.{IsBeginning}
 use Rattle.pg_rows.specs.Trail.{run, run_rows, run_pieces}
-use Rattle.pg_seq.specs.Cursor.{Cursor, moved, cursor_of, block_rows, counted, named, step_rows}
-use Rattle.pg_seq.proofs.ListLemmas.{or_none}
+use Rattle.pg_plan.specs.Cursor.{Cursor, moved, cursor_of, block_rows, counted, named, step_rows}
+use Rattle.pg_plan.proofs.ListLemmas.{or_none}
 use Rattle.pg_rows.proofs.ModeLemmas.{no_end, nothing_in, rows_are}
 use Rattle.pg_rows.proofs.TrailLemmas.{IsTrail, no_trail}
 use Rattle.pg_rows.proofs.FoldLemmas.{trail_more, rows_more, pieces_more, count_by_trail, name_by_trail, something}

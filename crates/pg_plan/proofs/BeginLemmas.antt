@@ -5,10 +5,11 @@ use Rattle.pg_selection.specs.Search.{Search, terminator}
 use Rattle.pg_rows.specs.declared.format.Format.{Format}
 use Rattle.pg_base.specs.Entries.{Entry}
 use Rattle.pg_rows.specs.Output.{HasRoom, output}
-use Rattle.pg_seq.specs.Plan.{Step, IsPlan, IsShaped, Begins, entries_of}
-use Rattle.pg_seq.specs.History.{Past, plan, taken_of, all_taken, front, front_after, handed_after, handed}
+use Rattle.pg_plan.specs.Plan.{Step, IsPlan, IsShaped, Begins, entries_of}
+use Rattle.pg_plan.specs.History.{Past, plan, taken_of, all_taken, front, front_after, handed_after, handed}
 use Rattle.pg_base.specs.Sink.{IsBeginning}
-use Rattle.pg_seq.proofs.CursorLemmas.{plan_begins}
+use Rattle.pg_plan.specs.Drains.{IsSafe}
+use Rattle.pg_plan.proofs.CursorLemmas.{plan_begins}
 
 pub begins_trans : (xs ys zs : List ℕ) → IsBeginning xs ys → IsBeginning ys zs → IsBeginning xs zs
 begins_trans xs ys zs a b = (a.0 ++ b.0, sym (append_assoc xs a.0 b.0) ∙ (ap (λ w. w ++ b.0) a.1 ∙ b.1))
@@ -40,3 +41,10 @@ handed_begins past room h entries b =
 pub shape_of : (end : ℕ) (p : List Step) → IsPlan end p → IsShaped end p
 shape_of end [] h = tt
 shape_of end (s ∷ p) h = (h.0.0, shape_of end p h.1)
+
+-- what may be handed out is a beginning of what the plan gives
+pub handed_safe : (past : Past) → HasRoom past.format → IsShaped (terminator past.query) (plan past)
+    → IsSafe past (handed past)
+unfolding handed_after front_after
+handed_safe past room shape = front_begins past.query past.format room (taken_of past.query past.events)
+    (plan past) shape

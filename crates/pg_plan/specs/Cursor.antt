@@ -6,7 +6,7 @@ use Rattle.pg_rows.specs.declared.format.Format.{Format}
 use Rattle.pg_rows.specs.Modes.{rows_in}
 use Rattle.pg_rows.specs.Trail.{no_lines, run}
 pub use Rattle.pg_rows.specs.Cursor.{Cursor, at_start, block_rows, counted, named}
-use Rattle.pg_seq.specs.Plan.{Step, Opens, Announces, Ends, Misses}
+use Rattle.pg_plan.specs.Plan.{Step, Opens, Announces, Ends, Misses}
 
 abbrev pub moved : Search → Format → Cursor → Step → Cursor
 moved q format c (Opens name) = record { earlier = c.earlier || c.trail.some; name = name; trail = no_lines }

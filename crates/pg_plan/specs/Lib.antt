@@ -1,0 +1,4 @@
+pub mod Plan
+pub mod History
+pub mod Cursor
+pub mod Drains
