@@ -91,9 +91,9 @@ NoneFailed OutOfMemory before after = after.failures ≡ before.failures
 NoneFailed TooManyFiles before after = after.failures ≡ before.failures
 NoneFailed TooLong before after = after.failures ≡ before.failures
 
--- A run stopped by a fault that has its cause: its output is a beginning of that of every list of files that goes on from
--- what was given, and the fault lines are a beginning of those of what was given. Where a file is at fault, nothing is
--- lost of those before it.
+-- A run stopped by a fault that has its cause: its output is a beginning of that of every list of files that goes on
+-- from what was given, and the fault lines are a beginning of those of what was given. Where a file is at fault,
+-- nothing is lost of those before it.
 pub record HasStopped (q : Search) (setup : Setup) (given : List Given) (out out' told told' : Stream)
     (fault : RunFault) : Type 0 where
   pub cause : HasCause fault q setup given out out' told told'

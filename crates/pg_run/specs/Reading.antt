@@ -15,7 +15,8 @@ use Rattle.pg_plan.specs.Plan.{Step, Ends, is_open, opened, last_blocks, entries
 use Rattle.pg_files.specs.Given.{Given, File, FilesPast, AllGiven, entries_given, files_given}
 use Rattle.pg_run.specs.Lengths.{IsTooLong}
 use Rattle.pg_run.specs.Told.{told_of}
-use Rattle.pg_run.specs.Outcome.{IsContinuation, EndsAtSelected, AsksToTheEnd, GotWholeLines, IsOfAFile, NoneFailed, BreaksOff, HasStopped}
+use Rattle.pg_run.specs.Outcome.{IsContinuation, EndsAtSelected, AsksToTheEnd, GotWholeLines, IsOfAFile, NoneFailed}
+use Rattle.pg_run.specs.Outcome.{BreaksOff, HasStopped}
 use Rattle.pg_run.specs.Cover.{Covers, HasOpenFile}
 use Rattle.pg_run.specs.Holding.{Aim, HasPlan, HasRoomInRound, format_of}
 use Rattle.pg_workers.specs.declared.block_search.BlockSearch.{Ghosts}

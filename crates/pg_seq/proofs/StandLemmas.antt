@@ -27,7 +27,8 @@ use Rattle.pg_base.specs.Entries.{Entry, Missed, Read, Running, Ended, Failed}
 use Rattle.pg_rows.specs.Output.{HasRoom, is_bad}
 use Rattle.pg_rows.specs.Output.{has_selected}
 use Rattle.pg_rows.specs.Remembered.{IsAtCursor}
-use Rattle.pg_plan.specs.Plan.{Step, Opens, Announces, Ends, Misses, IsShaped, IsNextOfFile, IsSmall, MayFollow, is_open}
+use Rattle.pg_plan.specs.Plan.{Step, Opens, Announces, Ends, Misses, IsShaped, IsNextOfFile, IsSmall, MayFollow}
+use Rattle.pg_plan.specs.Plan.{is_open}
 use Rattle.pg_plan.specs.Plan.{announced, last_blocks, entries_of, with_bytes, with_end}
 use Rattle.std.specs.Arc.{arc_value}
 use Rattle.std.specs.Prelude.{Result, Ok, Err, OnOk, OnErr}
