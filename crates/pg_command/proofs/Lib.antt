@@ -1,5 +1,3 @@
 pub mod RefusalLemmas
-pub mod ShownLemmas
 pub mod StatusLemmas
-pub mod ToldLemmas
 pub mod WorkLemmas

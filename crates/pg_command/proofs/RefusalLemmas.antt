@@ -12,7 +12,7 @@ use Rattle.pg_words.specs.declared.words.WordsFault.{WordsFault}
 use Rattle.pg_words.specs.declared.words.WordsFault.TheVariants.{Refused, OutOfMemory as NoMemoryForWords}
 use Rattle.pg_words.specs.declared.words.WordsFault.TheVariants.{Usage as UsageOfWords}
 use Rattle.pg_command.specs.Command.{Does, RefusesWords, TellsOfWords}
-use Rattle.pg_command.specs.Told.{line_of}
+use Rattle.pg_report.specs.Told.{line_of}
 use Rattle.pg_request.specs.declared.fault.Fault.TheVariants.{OutOfMemory}
 
 pub refusal_told : {T : Type 0} (tells : Type 0) (tree : Tree) (terminal : Bool) (past : List Given)

@@ -16,7 +16,7 @@ use Rattle.pg_request.specs.Asked.{Asked, glob_files, has_names, input_name, sco
 use Rattle.pg_command.specs.Causes.{fault_of_search}
 use Rattle.pg_request.specs.Operands.{IsDirectory}
 use Rattle.pg_request.specs.Reading.{HasRead, FailsToReadAll}
-use Rattle.pg_command.specs.Told.{TellsOfSearch}
+use Rattle.pg_report.specs.Told.{TellsOfSearch}
 use Rattle.pg_request.specs.declared.fault.Fault.{Fault}
 use Rattle.pg_request.specs.declared.fault.Fault.TheVariants.{OutOfMemory}
 

@@ -12,7 +12,7 @@ use Rattle.pg_words.specs.declared.words.WordsFault.TheVariants.{Refused, Usage 
 use Rattle.pg_words.specs.declared.words.WordsFault.TheVariants.{OutOfMemory as NoMemoryForWords}
 use Rattle.pg_command.specs.Answers.{AnswersSearch}
 use Rattle.pg_request.specs.Asked.{asked_on}
-use Rattle.pg_command.specs.Told.{TellsFault, TellsText, line_of}
+use Rattle.pg_report.specs.Told.{TellsFault, TellsText, line_of}
 use Rattle.pg_request.specs.declared.fault.Fault.TheVariants.{OutOfMemory, Usage, WriteFailed}
 use Rattle.pg_command.specs.declared.search.Told.{Told}
 

@@ -1,17 +1,15 @@
 //! The command: what the words of a command line ask for, over any files and streams.
 //!
 //! [`command`] reads the words, then the files of patterns and of globs, runs the search and answers its status; what
-//! it is given to read and to write may be the system's or lie in memory. It makes all texts that are told on standard
-//! error but those of `clap`.
+//! it is given to read and to write may be the system's or lie in memory.
 #![tactic(auto)]
 
 mod fault;
 mod program;
 mod search;
-mod shown;
 mod words;
 
-pub use fault::{FAULT_STATUS, report};
+pub use pg_report::{FAULT_STATUS, report};
 pub use pg_request::Fault;
 pub use program::{command, run};
 pub use search::{Told, answer};

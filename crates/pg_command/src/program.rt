@@ -2,13 +2,13 @@
 ghost use Rattle.std.specs.Prelude.{◌≡◌, ◌≤◌, [], map, IfOk, IfErr, OnErr, IsErr};
 ghost use Rattle.std.specs.String.{string_bytes};
 ghost use Rattle.pg_command.specs.Command.{Commands, IsShown, RunsCommand, TellsOfWords};
-ghost use Rattle.pg_command.specs.Told.{TellsFault};
+ghost use Rattle.pg_report.specs.Told.{TellsFault};
 
-use crate::fault::{FAULT_STATUS, report, tell_parts};
 use crate::search::{Told, answer};
 use crate::words::Call;
 use pg_base::{Out, Sink, write_all};
 use pg_files::{Listed, Store};
+use pg_report::{FAULT_STATUS, report, tell_parts};
 use pg_request::{Fault, request_on};
 use pg_walk::Prefetch;
 use pg_words::{HELP, Task, VERSION, Words, WordsFault, read_words};

@@ -7,9 +7,10 @@ ghost use Rattle.pg_request.specs.Asked.{asked_of, has_names, input_name, scope_
 ghost use Rattle.pg_command.specs.Answers.{AnswersSearch, Fails, IsSetup, Succeeds};
 ghost use Rattle.pg_request.specs.Reading.{contents_of};
 
-use crate::fault::{fault_of_search, tell_of_search};
+use crate::fault::fault_of_search;
 use pg_base::Sink;
 use pg_files::{Listed, STANDARD_INPUT, Store};
+use pg_report::tell_of_search;
 use pg_request::{
     Fault, is_directory, operands_of, read_globs, read_patterns, read_scope, text_of,
 };

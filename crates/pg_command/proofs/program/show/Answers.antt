@@ -1,6 +1,6 @@
 use Rattle.std.proofs.Common.{List, ℕ, refl, sym, ◌∙◌, subst}
 use Rattle.pg_base.specs.Sink.{WritesAll, WritesPart}
-use Rattle.pg_command.proofs.ToldLemmas.{part_at_err, all_at_ok}
+use Rattle.pg_report.proofs.ToldLemmas.{part_at_err, all_at_ok}
 use Rattle.pg_command.proofs.program.show.Goals as goal
 
 pub returns-then-is_err : goal.returns-then-is_err

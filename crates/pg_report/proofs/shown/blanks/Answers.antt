@@ -1,5 +1,5 @@
 use Rattle.std.proofs.lemmas.List.{take-replicate}
-use Rattle.pg_command.proofs.shown.blanks.Goals as goal
+use Rattle.pg_report.proofs.shown.blanks.Goals as goal
 
 pub returns : goal.returns
 returns c = take-replicate c.args.count 200 32 c.requires

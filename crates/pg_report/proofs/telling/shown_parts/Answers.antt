@@ -1,6 +1,6 @@
 use Rattle.std.proofs.Common.{codes}
-use Rattle.pg_command.proofs.ShownLemmas.{parts_join}
-use Rattle.pg_command.proofs.fault.shown_parts.Goals as goal
+use Rattle.pg_report.proofs.ShownLemmas.{parts_join}
+use Rattle.pg_report.proofs.telling.shown_parts.Goals as goal
 
 pub returns : goal.returns
 returns c =

@@ -4,8 +4,8 @@ use Rattle.std.specs.Prelude.{slice_index}
 use Rattle.std.specs.Fmt.{decimal}
 use Rattle.pg_grammar.specs.FaultTexts.{kind_text}
 use Rattle.pg_grammar.specs.declared.fault.ListFault.{ListFault}
-use Rattle.pg_command.specs.Shown.{advice, shown_lines}
-use Rattle.pg_command.specs.Told.{pattern_line}
+use Rattle.pg_report.specs.Shown.{advice, shown_lines}
+use Rattle.pg_report.specs.Told.{pattern_line}
 
 pub parts_join : (a b c d e f g h i j k l m : List ℕ)
     → a ++ (b ++ (c ++ (d ++ (e ++ (f ++ (g ++ (h ++ (i ++ (j ++ (k ++ (l ++ (m ++ []))))))))))))

@@ -1,8 +1,8 @@
 use Rattle.std.proofs.Common.{List, ℕ, subst, ◌∙◌}
 use Rattle.pg_base.specs.Sink.{Stream}
-use Rattle.pg_command.specs.Told.{TellsText}
-use Rattle.pg_command.proofs.ShownLemmas.{lines_are}
-use Rattle.pg_command.proofs.fault.tell_shown.Goals as goal
+use Rattle.pg_report.specs.Told.{TellsText}
+use Rattle.pg_report.proofs.ShownLemmas.{lines_are}
+use Rattle.pg_report.proofs.telling.tell_shown.Goals as goal
 
 pub returns : goal.returns
 returns g c =

@@ -2,8 +2,8 @@
 ghost use Rattle.std.specs.Prelude.{◌≡◌, ◌≤◌, IfSome, option_map, replicate, slice_index, true};
 ghost use Rattle.std.specs.List.{list_all, list_any};
 ghost use Rattle.pg_grammar.specs.Slices.{bytes_of};
-ghost use Rattle.pg_command.specs.Shown.{advice, escape_advice, has_newline, interval_advice, is_printable, is_shown};
-ghost use Rattle.pg_command.specs.Shown.{pattern_text, shown_text};
+ghost use Rattle.pg_report.specs.Shown.{advice, escape_advice, has_newline, interval_advice, is_printable, is_shown};
+ghost use Rattle.pg_report.specs.Shown.{pattern_text, shown_text};
 
 use pg_grammar::{FaultKind, ListFault};
 

@@ -3,7 +3,7 @@ use Rattle.std.proofs.Common.{◌≡◌, true, false, List, ℕ, Result, Ok, Err
 use Rattle.std.proofs.lemmas.Bool.{false≢true}
 use Rattle.std.specs.Result.{is_err}
 use Rattle.pg_base.specs.Sink.{Stream, WritesAll, WritesPart, WritesText}
-use Rattle.pg_command.specs.Told.{TellsText}
+use Rattle.pg_report.specs.Told.{TellsText}
 
 -- a text was written, or a beginning of it
 pub tells_by : {T E : Type 0} (r : Result T E) (text : List ℕ) (err err' : Stream) → WritesText text err err' r

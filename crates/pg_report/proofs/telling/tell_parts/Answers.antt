@@ -1,7 +1,7 @@
 use Rattle.pg_base.specs.Sink.{Stream}
 use Rattle.std.specs.List.{flat_map}
-use Rattle.pg_command.proofs.ToldLemmas.{tells_by}
-use Rattle.pg_command.proofs.fault.tell_parts.Goals as goal
+use Rattle.pg_report.proofs.ToldLemmas.{tells_by}
+use Rattle.pg_report.proofs.telling.tell_parts.Goals as goal
 
 pub returns : goal.returns
 returns g c =

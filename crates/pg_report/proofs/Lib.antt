@@ -1,0 +1,2 @@
+pub mod ShownLemmas
+pub mod ToldLemmas
