@@ -13,8 +13,7 @@ use Rattle.pg_rows.specs.declared.format.Format.{Format}
 use Rattle.pg_rows.specs.declared.format.Mode.{Mode}
 use Rattle.pg_rows.specs.Modes.{shows_rows, end_row, rows_in}
 use Rattle.pg_base.specs.Entries.{Entry, Read, Running, Ended, Failed, is_running}
-use Rattle.pg_rows.specs.Output.{output, file_rows}
-use Rattle.pg_rows.specs.Output.{is_below, line_rows, piece_rows, count_row, name_row}
+use Rattle.pg_rows.specs.Output.{output, file_rows, is_below, line_rows, piece_rows, count_row, name_row}
 use Rattle.pg_plan.specs.Plan.{Step, Opens, Announces, Ends, Misses, IsShaped, is_open, last_blocks, entries_of}
 use Rattle.pg_plan.specs.Plan.{with_bytes, with_end}
 use Rattle.pg_base.specs.Sink.{IsBeginning}

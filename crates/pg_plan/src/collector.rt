@@ -9,9 +9,8 @@ use pg_base::Sink;
 /// Contracts see what it stands after, and nothing else of it. `F` is the type of the results.
 pub trait Collector<F> {
     ghost use Rattle.pg_plan.specs.History.{Past, arrived, answer, handed};
-    ghost use Rattle.pg_plan.specs.Drains.{Drained, drained};
+    ghost use Rattle.pg_plan.specs.Drains.{Drained, IsSafe, drained};
     ghost use Rattle.pg_plan.specs.declared.answers.SinkFault.TheVariants.{WriteFailed};
-    ghost use Rattle.pg_plan.specs.Drains.{IsSafe};
     ghost use Rattle.pg_selection.specs.Searched.{Searched};
 
     /// It stands after this.

@@ -6,12 +6,11 @@ use Rattle.pg_base.specs.Sink.{Stream}
 use Rattle.pg_rows.specs.Output.{output}
 use Rattle.pg_plan.specs.Plan.{entries_of}
 use Rattle.pg_plan.specs.History.{Past, plan, handed}
-use Rattle.pg_plan.specs.Drains.{Drained, drained}
+use Rattle.pg_plan.specs.Drains.{Drained, drained, IsSafe}
 use Rattle.pg_plan.specs.declared.answers.SinkFault.{SinkFault}
 use Rattle.pg_plan.specs.declared.answers.SinkFault.TheVariants.{WriteFailed, Failed}
 use Rattle.pg_plan.proofs.BeginLemmas.{begins_trans}
 use Rattle.pg_round.specs.Receipts.{HasFailed, HasWritten, Takes}
-use Rattle.pg_plan.specs.Drains.{IsSafe}
 use Rattle.pg_round.specs.declared.fault.RoundFault.TheVariants.{Sink}
 
 or_false : (b : Bool) → (b || false) ≡ b

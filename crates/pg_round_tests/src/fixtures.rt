@@ -86,9 +86,8 @@ pub(crate) struct Counts {
 
 impl<A: Allocator> Collector<BlockResult<A>> for Counts {
     ghost use Rattle.pg_plan.specs.History.{Past, answer, handed};
-    ghost use Rattle.pg_plan.specs.Drains.{Drained, drained};
+    ghost use Rattle.pg_plan.specs.Drains.{Drained, IsSafe, drained};
     ghost use Rattle.pg_plan.specs.declared.answers.SinkFault.TheVariants.{WriteFailed};
-    ghost use Rattle.pg_plan.specs.Drains.{IsSafe};
 
     ghost stands = { λ s past. ⊥ };
 

@@ -9,10 +9,9 @@ use Rattle.pg_blocks.proofs.LineLemmas.{lines-append}
 use Rattle.pg_rows.specs.declared.format.Format.{Format}
 use Rattle.pg_rows.specs.declared.format.Mode.{Mode}
 use Rattle.pg_base.specs.Entries.{Entry, Missed, Read, Ending, Running, Ended, Failed, Left, is_running}
-use Rattle.pg_rows.specs.Output.{HasRoom}
+use Rattle.pg_rows.specs.Output.{HasRoom, is_nothing, has_selected, when, file_rows, line_rows, piece_rows}
 use Rattle.pg_rows.specs.Modes.{is_quiet, shows_rows, end_row, rows_in}
 use Rattle.pg_rows.proofs.ModeLemmas.{no_end}
-use Rattle.pg_rows.specs.Output.{is_nothing, has_selected, when, file_rows, line_rows, piece_rows}
 use Rattle.pg_rows.specs.Output.{count_row, name_row, output}
 use Rattle.pg_base.specs.Sink.{IsBeginning}
 use Rattle.pg_rows.specs.Trail.{run_pieces, trail_of}

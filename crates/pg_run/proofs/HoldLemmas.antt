@@ -19,8 +19,7 @@ use Rattle.pg_plan.specs.declared.answers.SinkFault.TheVariants.{WriteFailed, Fa
 use Rattle.pg_plan.specs.Plan.{Step, Announces, MayFollow, IsShaped, IsPlan, announced, opened, entries_of, is_open}
 use Rattle.pg_plan.specs.History.{Past, Planned, Arrived, start, planned, arrived, plan, taken_of, taken_after}
 use Rattle.pg_plan.specs.History.{is_taken, all_taken, answer, answer_after, front_of, front_after, handed}
-use Rattle.pg_plan.specs.History.{handed_after}
-use Rattle.pg_plan.specs.History.{IsComplete, status_of}
+use Rattle.pg_plan.specs.History.{handed_after, IsComplete, status_of}
 use Rattle.pg_seq.specs.Standing.{IsAfter}
 use Rattle.pg_plan.specs.Drains.{Drained, drained}
 use Rattle.pg_seq.proofs.ArrivalLaws.{first_is_taken}

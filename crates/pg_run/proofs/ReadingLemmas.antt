@@ -23,8 +23,7 @@ use Rattle.pg_base.specs.Sink.{Stream, IsBeginning, TakesPart}
 use Rattle.pg_base.proofs.SinkLemmas.{takes_longer}
 use Rattle.pg_plan.specs.Plan.{Step, Announces, Ends, entries_of}
 use Rattle.pg_plan.proofs.CursorLemmas.{joined_push}
-use Rattle.pg_files.specs.Given.{Given, FilesPast, entries_given, files_given, gave_bytes, gave_end}
-use Rattle.pg_files.specs.Given.{newest_name}
+use Rattle.pg_files.specs.Given.{Given, FilesPast, entries_given, files_given, gave_bytes, gave_end, newest_name}
 use Rattle.pg_run.specs.Lengths.{IsTooLong}
 use Rattle.pg_run.specs.Told.{AddsFailure, faults_of, fault_line}
 use Rattle.pg_run.specs.Faults.{fault_of_cut}
@@ -33,8 +32,7 @@ use Rattle.pg_run.specs.Cover.{is_left, HasOpenFile}
 use Rattle.pg_run.specs.Holding.{Aim, HasPlan, MayStep, BreaksOffInSearch, SearchCause, AllIsWritten, IsWrittenFirst}
 use Rattle.pg_run.specs.Holding.{format_of, output_of}
 use Rattle.pg_run.specs.Reading.{IsInsideFile, HasCut, IsLost, CutCause, MayEndFile, IsBetweenFiles, BreaksOffInFile}
-use Rattle.pg_run.specs.Reading.{IsCommonBeginning, ReadCause}
-use Rattle.pg_run.specs.Reading.{OnlyReadsOn, HasReadOn, ending_of, ending_after}
+use Rattle.pg_run.specs.Reading.{IsCommonBeginning, ReadCause, OnlyReadsOn, HasReadOn, ending_of, ending_after}
 use Rattle.pg_workers.specs.declared.block_search.BlockSearch.{Ghosts}
 use Rattle.pg_run.specs.declared.engine.Engine.{Engine}
 use Rattle.pg_run.specs.declared.reader.FileReader.{FileReader}

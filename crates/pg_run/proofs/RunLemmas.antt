@@ -13,8 +13,7 @@ use Rattle.pg_rows.specs.declared.format.Format.{Format}
 use Rattle.pg_rows.specs.Modes.{is_quiet, rows_in}
 use Rattle.pg_rows.proofs.ModeLemmas.{nothing_in}
 use Rattle.pg_base.specs.Entries.{Entry, Missed, Read, Running, Ended, Failed, Left}
-use Rattle.pg_rows.specs.Output.{output, when}
-use Rattle.pg_rows.specs.Output.{has_selected}
+use Rattle.pg_rows.specs.Output.{output, when, has_selected}
 use Rattle.pg_rows.specs.Output.{file_rows, line_rows, piece_rows, is_nothing}
 use Rattle.pg_rows.specs.Enough.{is_enough, file_suffices}
 use Rattle.pg_base.specs.Sink.{Stream, TakesPart, WritesAll, WritesPart}

@@ -21,8 +21,7 @@ use Rattle.pg_rows.specs.Remembered.{IsAtCursor, opened_as, behind_block, shown_
 use Rattle.pg_seq.specs.declared.opening.Opening.{Opening}
 use Rattle.pg_seq.specs.declared.slot.Slot.{Slot}
 use Rattle.pg_seq.specs.declared.assembler.Assembler.{Assembler}
-use Rattle.pg_plan.specs.Plan.{Step, Opens, Announces, Ends, IsPlan, IsShaped, is_open, announced}
-use Rattle.pg_plan.specs.Plan.{entries_of}
+use Rattle.pg_plan.specs.Plan.{Step, Opens, Announces, Ends, IsPlan, IsShaped, is_open, announced, entries_of}
 use Rattle.pg_plan.specs.History.{Past, plan, taken_of, is_taken, all_taken, front, front_after, handed, handed_after}
 use Rattle.pg_plan.specs.Cursor.{cursor_of, step_rows}
 use Rattle.pg_seq.specs.Coming.{behind, blocks_of, openings}

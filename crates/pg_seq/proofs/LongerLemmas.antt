@@ -9,12 +9,10 @@ use Rattle.pg_blocks.specs.Lines.{lines, AreWhole}
 use Rattle.pg_selection.specs.Selection.{selects}
 use Rattle.pg_blocks.proofs.LineLemmas.{lines-append}
 use Rattle.pg_rows.specs.declared.format.Format.{Format}
-use Rattle.pg_base.specs.Entries.{Entry, Missed, Read, Ending, Running, Ended, Failed, Left}
-use Rattle.pg_rows.specs.Output.{status, HasRoom}
+use Rattle.pg_base.specs.Entries.{Entry, Missed, Read, Ending, Running, Ended, Failed, Left, is_running, is_failed}
+use Rattle.pg_rows.specs.Output.{status, HasRoom, is_nothing, is_bad, has_selected}
 use Rattle.pg_rows.specs.Modes.{is_quiet}
 use Rattle.pg_rows.proofs.ModeLemmas.{quiet_rows_in}
-use Rattle.pg_base.specs.Entries.{is_running, is_failed}
-use Rattle.pg_rows.specs.Output.{is_nothing, is_bad, has_selected}
 use Rattle.pg_rows.specs.Output.{file_rows, output}
 use Rattle.pg_rows.specs.Enough.{lines_suffice, is_enough}
 use Rattle.pg_seq.specs.Settled.{AreLeftRightly, MayBeLonger, GiveTheSame, ChangeNothing}

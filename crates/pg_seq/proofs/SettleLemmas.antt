@@ -16,8 +16,7 @@ use Rattle.pg_rows.specs.declared.format.Mode.{Mode}
 use Rattle.pg_rows.specs.Modes.{shows_rows, settles_at_first, is_named, end_row, rows_in}
 use Rattle.pg_rows.proofs.ModeLemmas.{rows_settle_late, end_by_count, end_by_name}
 use Rattle.pg_rows.specs.Output.{name_end, name_mark, name_text, painted, HasRoom, is_below, when, row, file_rows}
-use Rattle.pg_rows.specs.Output.{line_rows, piece_rows}
-use Rattle.pg_rows.specs.Output.{count_row, name_row, is_shown}
+use Rattle.pg_rows.specs.Output.{line_rows, piece_rows, count_row, name_row, is_shown}
 use Rattle.pg_rows.specs.Trail.{Trail, step, run, run_rows, run_pieces, keeps, after_kept, after_context}
 use Rattle.pg_rows.specs.Trail.{after_other, kept_rows, pieces_in, trail_of, with_offset}
 use Rattle.pg_rows.specs.Enough.{is_full, is_trailed, lines_suffice}

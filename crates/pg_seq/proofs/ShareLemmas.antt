@@ -11,9 +11,8 @@ use Rattle.pg_selection.specs.Selection.{selects}
 use Rattle.pg_rows.specs.declared.format.Format.{Format}
 use Rattle.pg_rows.specs.Modes.{end_row, is_quiet, shows_rows}
 use Rattle.pg_base.specs.Entries.{Entry, Missed, Read, is_running}
-use Rattle.pg_rows.specs.Output.{is_bad, has_selected, has_separators, is_nothing}
+use Rattle.pg_rows.specs.Output.{is_bad, has_selected, has_separators, is_nothing, row, size_of, status, when}
 use Rattle.pg_rows.specs.Output.{count_row, file_rows, gap_text, line_rows, name_row, output, painted, piece_rows}
-use Rattle.pg_rows.specs.Output.{row, size_of, status, when}
 use Rattle.pg_rows.specs.Trail.{Trail, no_lines, step, keeps, after_kept, after_context, after_other, added}
 use Rattle.pg_rows.specs.Trail.{context_rows, gap_row, run_rows, with_offset}
 use Rattle.pg_rows.proofs.FoldLemmas.{rows_more, something, some_append, some_row, trail_is}

@@ -24,17 +24,14 @@ use Rattle.pg_rows.specs.declared.format.Format.{Format}
 use Rattle.pg_rows.specs.declared.printer.Printer.{Printer}
 use Rattle.pg_rows.specs.Modes.{is_quiet}
 use Rattle.pg_base.specs.Entries.{Entry, Missed, Read, Running, Ended, Failed}
-use Rattle.pg_rows.specs.Output.{HasRoom, is_bad}
-use Rattle.pg_rows.specs.Output.{has_selected}
+use Rattle.pg_rows.specs.Output.{HasRoom, is_bad, has_selected}
 use Rattle.pg_rows.specs.Remembered.{IsAtCursor}
 use Rattle.pg_plan.specs.Plan.{Step, Opens, Announces, Ends, Misses, IsShaped, IsNextOfFile, IsSmall, MayFollow}
-use Rattle.pg_plan.specs.Plan.{is_open}
-use Rattle.pg_plan.specs.Plan.{announced, last_blocks, entries_of, with_bytes, with_end}
+use Rattle.pg_plan.specs.Plan.{is_open, announced, last_blocks, entries_of, with_bytes, with_end}
 use Rattle.std.specs.Arc.{arc_value}
 use Rattle.std.specs.Prelude.{Result, Ok, Err, OnOk, OnErr}
 use Rattle.pg_plan.specs.History.{Past, start, plan, planned, arrived, answer, answer_after, arrival_at, taken_of}
-use Rattle.pg_plan.specs.History.{taken_after, is_taken, is_block, all_taken, front_after}
-use Rattle.pg_plan.specs.History.{IsComplete, status_of}
+use Rattle.pg_plan.specs.History.{taken_after, is_taken, is_block, all_taken, front_after, IsComplete, status_of}
 use Rattle.pg_seq.specs.Coming.{blocks_of, openings}
 use Rattle.pg_plan.specs.Cursor.{at_start, cursor_of}
 use Rattle.pg_seq.specs.Slots.{place_of, at_place, slot_block, has_result, arrival_among, with_result, IsResultOf}

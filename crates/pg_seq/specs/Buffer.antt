@@ -4,8 +4,7 @@ use Rattle.std.specs.List.{AllByRecursion}
 use Rattle.pg_selection.specs.Search.{Search, HasItsTrees}
 use Rattle.pg_blocks.specs.Blocks.{BlockData}
 use Rattle.pg_selection.specs.Searched.{Searched}
-use Rattle.pg_seq.specs.Slots.{slot_block, has_result, slot_selects, place_of, arrival_among, with_result}
-use Rattle.pg_seq.specs.Slots.{IsResultOf}
+use Rattle.pg_seq.specs.Slots.{slot_block, has_result, slot_selects, place_of, arrival_among, with_result, IsResultOf}
 use Rattle.pg_plan.specs.declared.answers.Arrival.{Arrival}
 use Rattle.pg_seq.specs.declared.slot.Slot.{Slot}
 use Rattle.pg_seq.specs.declared.reorder_buffer.ReorderBuffer.{ReorderBuffer}

@@ -10,9 +10,8 @@ use std::alloc::Allocator;
 impl<A: Allocator> Collector<BlockResult<A>> for Sequencer<A> {
     ghost use Rattle.pg_plan.specs.History.{Past, arrived, answer, handed};
     ghost use Rattle.pg_seq.specs.Standing.{IsAfter};
-    ghost use Rattle.pg_plan.specs.Drains.{Drained, drained};
+    ghost use Rattle.pg_plan.specs.Drains.{Drained, IsSafe, drained};
     ghost use Rattle.pg_plan.specs.declared.answers.SinkFault.TheVariants.{WriteFailed};
-    ghost use Rattle.pg_plan.specs.Drains.{IsSafe};
 
     ghost stands = { λ s past. IsAfter s past };
 

@@ -15,8 +15,7 @@ use Rattle.pg_seq.specs.Buffer.{HasResult}
 use Rattle.pg_seq.specs.Standing.{IsAfter}
 use Rattle.pg_plan.proofs.ListLemmas.{heads}
 use Rattle.pg_seq.proofs.StandLemmas.{same_buffer, same_stands}
-use Rattle.pg_seq.proofs.DrainSteps.{here, none_ready, result_is, lines_fit, bytes_fit, printed_next}
-use Rattle.pg_seq.proofs.DrainSteps.{block_part}
+use Rattle.pg_seq.proofs.DrainSteps.{here, none_ready, result_is, lines_fit, bytes_fit, printed_next, block_part}
 use Rattle.pg_seq.proofs.assembler.Assembler.print_next.Goals as goal
 
 -- the first slot has the result
