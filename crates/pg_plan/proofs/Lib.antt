@@ -1,3 +1,4 @@
 pub mod ListLemmas
 pub mod CursorLemmas
 pub mod BeginLemmas
+pub mod ArrivalLaws

@@ -7,6 +7,8 @@
 
 mod answers;
 mod collector;
+mod laws;
 
 pub use answers::{Arrival, SinkFault};
 pub use collector::Collector;
+pub use laws::{first_arrival_is_taken, handed_out_begins};

@@ -1,7 +1,7 @@
 //! What is told of faults on standard error.
 //!
-//! [`report`] writes the line of a fault, and [`tell_of_search`] shows below that of a pattern the pattern itself, with a
-//! mark under the place.
+//! [`report`] writes the line of a fault, and [`tell_of_search`] shows below that of a pattern the pattern itself, with
+//! a mark under the place.
 #![tactic(auto)]
 
 mod shown;

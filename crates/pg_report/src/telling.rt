@@ -115,7 +115,7 @@ fn tell_pattern_of<W: Sink>(alloc: Global, texts: &[&str], fault: ListFault, err
     }
 }
 
-/// Writes the lines of the fault of a pattern with this text.
+/// Writes the lines of the fault of a pattern with this text, at most 200 bytes behind its start.
 fn tell_shown<W: Sink>(alloc: Global, text: &str, fault: ListFault, err: &mut W)
     requires { fault.fault.at ≤ 200 }
     ensures { TellsText (pattern_line fault ++ shown_lines text.now fault) (W.stream err.old) (W.stream err.new) }

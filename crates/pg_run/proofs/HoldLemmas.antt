@@ -22,7 +22,7 @@ use Rattle.pg_plan.specs.History.{is_taken, all_taken, answer, answer_after, fro
 use Rattle.pg_plan.specs.History.{handed_after, IsComplete, status_of}
 use Rattle.pg_seq.specs.Standing.{IsAfter}
 use Rattle.pg_plan.specs.Drains.{Drained, drained}
-use Rattle.pg_seq.proofs.ArrivalLaws.{first_is_taken}
+use Rattle.pg_plan.proofs.ArrivalLaws.{first_is_taken}
 use Rattle.pg_plan.proofs.BeginLemmas.{begins_trans, shape_of}
 use Rattle.pg_plan.proofs.CursorLemmas.{plan_begins}
 use Rattle.pg_seq.proofs.FrontLemmas.{front_all}

@@ -105,7 +105,7 @@ fn is_spread<Q: BlockSearch>(query: &Q, setup: &Setup, pace: Pace) -> bool
     pays && setup.workers > 0 && setup.round > 1 && is_endless(setup.format)
 }
 
-/// Makes one more scratch. There are fewer than 65.
+/// Makes one more scratch. There are fewer than 65, each made for the query.
 fn add_scratch<A: Allocator + Copy, Q: BlockSearch<Alloc = A>>(
     query: &Q,
     scratches: &mut Vec<Q::Scratch, A>,
@@ -119,8 +119,8 @@ fn add_scratch<A: Allocator + Copy, Q: BlockSearch<Alloc = A>>(
     Ok(())
 }
 
-/// Makes scratches until there are so many, 1 to 65. Where memory is refused, the thread that would have needed it is
-/// given up, but one scratch there has to be.
+/// Makes scratches until there are so many, 1 to 65; those that are there were made for the query. Where memory is
+/// refused, the thread that would have needed it is given up, but one scratch there has to be.
 fn equip<A: Allocator + Copy, Q: BlockSearch<Alloc = A>>(
     query: &Q,
     scratches: &mut Vec<Q::Scratch, A>,

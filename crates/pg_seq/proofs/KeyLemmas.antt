@@ -13,7 +13,7 @@ use Rattle.pg_plan.specs.Plan.{Step, Opens, Announces, Ends, Misses, IsShaped, I
 use Rattle.pg_plan.specs.Plan.{opened, announced, last_blocks}
 use Rattle.pg_plan.specs.History.{Event, Planned, Arrived, plan_of, taken_of, taken_after, arrival_at}
 use Rattle.pg_plan.specs.History.{is_block, is_taken}
-use Rattle.pg_seq.proofs.ArrivalLaws.{IsBelow, all_below}
+use Rattle.pg_plan.proofs.ArrivalLaws.{IsBelow, all_below}
 
 pub find_passes : {X : Type 0} (p : X → Bool) (xs : List X) (x : X) → find p xs ≡ Some x → p x ≡ true
 find_passes p [] x e = cc

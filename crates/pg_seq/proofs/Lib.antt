@@ -2,7 +2,6 @@ pub mod Examples
 pub mod SlotLemmas
 pub mod SelectLemmas
 pub mod FrontLemmas
-pub mod ArrivalLaws
 pub mod StartLemmas
 pub mod KeyLemmas
 pub mod PlaceLemmas

@@ -1,40 +1,23 @@
 //! Laws of the definitions that contracts cite. They speak of all values, and a call does nothing.
 ghost use Rattle.std.specs.Prelude.{◌≡◌, ◌++◌, ℕ, List, false, true};
-ghost use Rattle.std.specs.List.{Contains, list_any};
+ghost use Rattle.std.specs.List.{list_any};
 ghost use Rattle.pg_selection.specs.Search.{Search, terminator};
 ghost use Rattle.pg_blocks.specs.Lines.{AreWhole, lines};
-ghost use Rattle.pg_selection.specs.Searched.{Searched};
 ghost use Rattle.pg_rows.specs.declared.format.Format.{Format};
 ghost use Rattle.pg_rows.specs.Modes.{is_quiet};
 ghost use Rattle.pg_base.specs.Entries.{Entry};
 ghost use Rattle.pg_rows.specs.Output.{HasRoom, has_separators, has_selected, output, status};
 ghost use Rattle.pg_rows.specs.Enough.{lines_suffice};
-ghost use Rattle.pg_plan.specs.Plan.{IsPlan, Begins, announced, entries_of};
-ghost use Rattle.pg_plan.specs.History.{Past, IsComplete, plan, handed, answer, is_taken, taken_of};
-ghost use Rattle.pg_base.specs.Sink.{IsBeginning};
+ghost use Rattle.pg_plan.specs.Plan.{entries_of};
+ghost use Rattle.pg_plan.specs.History.{Past, IsComplete, plan, handed};
 ghost use Rattle.pg_seq.specs.Settled.{IsSettled, AreLeftRightly, MayBeLonger, GiveTheSame, ChangeNothing};
 ghost use Rattle.pg_seq.specs.Shares.{joined_output, joined_status};
-ghost use Rattle.pg_plan.specs.declared.answers.Arrival.TheVariants.{Taken};
-
-/// What may be handed out is a beginning of the output of every list of files that the plan begins.
-pub fn handed_out_begins()
-    ensures { (past : Past) → HasRoom past.format → IsPlan (terminator past.query) (plan past) →
-        (entries : List Entry) → Begins (terminator past.query) (plan past) entries →
-        IsBeginning (handed past) (output past.query past.format entries) }
-{}
 
 /// Once no file is open and the result of each announced block was taken, the whole output of the plan's files may be
 /// handed out.
 pub fn complete_output_is_whole()
     ensures { (past : Past) → IsComplete past →
         handed past ≡ output past.query past.format (entries_of (plan past)) }
-{}
-
-/// The first arrival of an announced block's result under the query is taken.
-pub fn first_arrival_is_taken()
-    ensures { (past : Past) (found : Searched) → IsPlan (terminator past.query) (plan past) →
-        found.query ≡ past.query.text → Contains (announced (plan past)) found.block →
-        is_taken (taken_of past.query past.events) found.block ≡ false → answer past found ≡ Taken }
 {}
 
 /// Where whole lines that were read of a file suffice, what the file gives is settled: whatever follows

@@ -16,8 +16,8 @@ mod sequencer;
 mod slot;
 
 pub use laws::{
-    complete_output_is_whole, first_arrival_is_taken, handed_out_begins, later_files_stay_unread,
-    left_files_may_be_longer, lines_that_suffice_settle,
+    complete_output_is_whole, later_files_stay_unread, left_files_may_be_longer,
+    lines_that_suffice_settle, shares_join,
 };
 pub use pg_plan::{Arrival, SinkFault};
 pub use sequencer::Sequencer;
