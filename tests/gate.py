@@ -1,8 +1,8 @@
 #!/usr/bin/env python3
 """The gate: has the toolchain prove all from nothing and run the tests, and each wrong body tried; then compares the
-options, the wrong bodies and the crates with the documents that list them, runs the rows, the runs by threads, over
-trees, without memory and over an input that stays open, and looks up the wrong bodies that it doesn't try. It closes
-with 'N passed, M failed' over all.
+options, the wrong bodies and the crates with the documents that list them, looks for lemmas and definitions without
+use, runs the rows, the runs by threads, over trees, without memory and over an input that stays open, and looks up the
+wrong bodies that it doesn't try. It closes with 'N passed, M failed' over all.
 
 Usage: tests/gate.py [RT]
 
@@ -36,6 +36,7 @@ SCRIPTS = (
     ("the options", "options.py"),
     ("the list of wrong bodies", "wrong_bodies.py"),
     ("the map of crates", "crate_map.py"),
+    ("lemmas and definitions without use", "unused.py"),
     ("the rows", "run_rows.py"),
     ("the runs by threads", "threads.py"),
     ("the runs over trees", "trees.py"),

@@ -39,7 +39,7 @@ part_of_first first second before after w = record {
   failure = w.failure;
 }
 
-rises : (before middle after : ℕ) → middle ≡ before → middle < after → before < after
+pub rises : (before middle after : ℕ) → middle ≡ before → middle < after → before < after
 rises before middle after e h = omega arith
 
 -- behind the first text, a beginning of the second one was written

@@ -94,27 +94,3 @@ pub all_within : {A E : Type 0} (r : Result (Vec ℕ A) E) (xs : List ℕ) → I
     → IfOk r (λ v. length xs ≤ length v.items)
 all_within (Ok v) xs e = omega (arith, ap length e)
 all_within (Err e) xs h = tt
-
--- the bytes behind the first ones were moved to the front
-pub front_moved : (xs ys : List ℕ) (len filled : ℕ) → len ≤ filled → filled ≤ length xs
-    → ys ≡ copy_within xs len filled 0
-    → (take (filled - len) ys ≡ drop len (take filled xs)) × (filled - len ≤ length ys)
-front_moved xs ys len filled low high e =
-    let n = filled - len in
-    let rest = length-drop len xs in
-    let none : 0 + n ≡ n = omega arith in
-    let all : len + n ≡ filled = omega arith in
-    let fits : n ≤ length (drop len xs) = omega (arith, rest) in (
-      ap (take n) e
-          ∙ (ap (λ k. take k (copy_within xs len filled 0)) (sym none)
-          ∙ (take-paste xs 0 (drop len xs) n (omega arith) fits
-          ∙ (sym (drop-take len n xs) ∙ ap (λ k. drop len (take k xs)) all))),
-      omega (arith, ap length e, length-paste xs 0 (drop len xs) n (omega arith) fits),
-    )
-
--- a buffer that begins with the first bytes of another one was cut to these
-pub front_cut : (xs bytes buffer front : List ℕ) (len : ℕ) → len ≤ length xs → bytes ≡ take len xs
-    → take (length bytes) buffer ≡ bytes → front ≡ take len buffer → front ≡ take len xs
-front_cut xs bytes buffer front len fits is begins e =
-    let n : length bytes ≡ len = ap length is ∙ length-take-le len xs fits in
-    e ∙ (ap (λ k. take k buffer) (sym n) ∙ (begins ∙ is))

@@ -88,7 +88,7 @@ pub record SameCuts (blocks others : List BlockData) (rest other : List ℕ) : T
   pub same : others ≡ blocks
   pub left : other ≡ rest
 
-same_block : (a b : BlockData) → a.file ≡ b.file → a.number ≡ b.number → a.bytes ≡ b.bytes → a ≡ b
+pub same_block : (a b : BlockData) → a.file ≡ b.file → a.number ≡ b.number → a.bytes ≡ b.bytes → a ≡ b
 same_block a b f n x =
     let F : ℕ → BlockData = λ v. record a { file = v } in
     let N : ℕ → BlockData = λ v. record b { number = v; bytes = a.bytes } in

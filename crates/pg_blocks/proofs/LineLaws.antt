@@ -83,7 +83,7 @@ each_front : (end : ℕ) (front : List (List ℕ)) (last : List ℕ) → AllByRe
 each_front end [] last h = (tt, h.0)
 each_front end (l ∷ front) last h = let r = each_front end front last h.1 in ((h.0, r.0), r.1)
 
-some_bytes : (xs : List ℕ) → xs ≢ [] → 0 < length xs
+pub some_bytes : (xs : List ℕ) → xs ≢ [] → 0 < length xs
 some_bytes [] ne = absurd (ne refl)
 some_bytes (x ∷ xs) ne = omega arith
 

@@ -61,25 +61,6 @@ length-terminated-cons end ls l = omega (
   length-append l (end ∷ []),
 )
 
--- the line that stands at a span
-pub record IsAt (bytes line : List ℕ) (span : ℕ × ℕ) : Type 0 where
-  pub ordered : span.0 ≤ span.1
-  pub within : span.1 ≤ length bytes
-  pub same : slice_range bytes span.0 span.1 ≡ line
-
-pub middle : (xs front line tail : List ℕ) → xs ≡ front ++ (line ++ tail)
-    → IsAt xs line (length front, length front + length line)
-middle xs front line tail e =
-    let n = length front in
-    let total : length xs ≡ n + (length line + length tail) =
-    omega (arith, ap length e, length-append front (line ++ tail), length-append line tail) in
-    let less : (n + length line) - n ≡ length line = omega arith in
-    let cut : take (length line) (drop n (front ++ (line ++ tail))) ≡ line =
-    ap (take (length line)) (drop_at front (line ++ tail) n refl) ∙ take_at line tail (length line) refl in
-    let P : ℕ → Type 0 = λ m. take m (drop n xs) ≡ line in
-    let Q : List ℕ → Type 0 = λ bs. take (length line) (drop n bs) ≡ line in
-    record { ordered = omega arith; within = omega arith; same = subst P (sym less) (subst Q (sym e) cut) }
-
 -- a text without terminator, and its terminator, in front
 pub lines-line : (end : ℕ) (l rest : List ℕ) → IsLine end l → lines end (l ++ end ∷ rest) ≡ l ∷ lines end rest
 lines-line end [] rest h = ap (λ t. cond t ([] ∷ lines end rest) (onto_first end (lines end rest)))
@@ -158,7 +139,7 @@ lines-append end xs ys (inl e) = ap (λ bs. lines end (bs ++ ys)) e ∙ sym (ap 
 lines-append end xs ys (inr h) = ap (λ bs. lines end (bs ++ ys)) h.1
     ∙ (lines-ended end h.0 ys ∙ sym (ap (λ bs. lines end bs ++ lines end ys) h.1))
 
-whole_tail : (end b : ℕ) (bytes : List ℕ) → AreWhole end (b ∷ bytes) → AreWhole end bytes
+pub whole_tail : (end b : ℕ) (bytes : List ℕ) → AreWhole end (b ∷ bytes) → AreWhole end bytes
 whole_tail end b bytes (inl e) = absurd (cc)
 whole_tail end b bytes (inr h) = ended_tail end b bytes h.0 h.1
   where

@@ -13,6 +13,7 @@ use Rattle.pg_blocks.specs.Lines.{lines, IsLine}
 use Rattle.pg_blocks.specs.Long.{has_long, open_from}
 use Rattle.memchr.specs.Find.{IsLastByte, is_byte}
 use Rattle.pg_blocks.proofs.LineLemmas.{Made, none, ended, alone, onto, made}
+use Rattle.std.proofs.Math.Bool.{or-true}
 
 cond_map : {A B : Type 0} (F : A → B) (t : Bool) (u v : A) (x y : B) → x ≡ F u → y ≡ F v → cond t x y ≡ F (cond t u v)
 cond_map F true u v x y e f = e
@@ -89,10 +90,6 @@ module _ (end longest : ℕ) where
         ]
       ]
 
-  or_true : (b : Bool) → (b || true) ≡ true
-  or_true true = refl
-  or_true false = refl
-
   made_long : (bytes : List ℕ) (ls : List (List ℕ)) → Made end bytes ls → (n : ℕ) → n ≤ longest
       → SomeLongFrom longest n ls → has_long end longest n bytes ≡ true
   made_long _ _ none n le h = absurd h
@@ -111,7 +108,7 @@ module _ (end longest : ℕ) where
         | inr k ↦ let next : SomeLongFrom longest (n + 1) (l ∷ ls) =
             elim h [ inl q ↦ inl (omega arith) | inr q ↦ inr q ] in
             ap (λ t. nat_lt longest (n + 1) || t) (made_long bytes (l ∷ ls) m (n + 1) k next)
-            ∙ or_true (nat_lt longest (n + 1))
+            ∙ or-true (nat_lt longest (n + 1))
       ]
 
 any_long : (longest : ℕ) (ls : List (List ℕ)) → SomeLong longest ls → Any (λ l. longest < length l) ls

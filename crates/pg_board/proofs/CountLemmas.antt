@@ -86,10 +86,6 @@ module _ {A : Type 0} where
   total_le f g below [] = omega arith
   total_le f g below (x ∷ xs) = let a = below x in let r = total_le f g below xs in omega arith
 
-  pub total_same : (f g : A → ℕ) → ((x : A) → f x ≡ g x) → (xs : List A) → total f xs ≡ total g xs
-  total_same f g same [] = refl
-  total_same f g same (x ∷ xs) = let a = same x in let r = total_same f g same xs in omega arith
-
   -- a list of no members has no total, nor has one whose members have none
   pub total_empty : (f : A → ℕ) (xs : List A) → length xs ≡ 0 → total f xs ≡ 0
   total_empty f [] e = refl

@@ -14,10 +14,13 @@ use Rattle.pg_board.specs.declared.puts.Puts.{Puts}
 use Rattle.pg_board.specs.declared.puts.PassView.{PassView}
 use Rattle.pg_board.specs.Counts.{total, once_below}
 use Rattle.pg_board.specs.Merge.{IsMerge}
-use Rattle.pg_board.specs.TrayRule.{entry, puts, pass_view, put_by, values_of, lists_of, first_values, passes_numbered}
+use Rattle.pg_board.specs.TrayRule.{puts, pass_view, put_by, values_of, lists_of, first_values, passes_numbered}
 use Rattle.pg_board.specs.TrayRule.{Knows, KeepsTray, PutOne, TakeOne, HandOutOne, IsWholeMerge}
 use Rattle.pg_board.proofs.CountLemmas.{total_set, total-append, total_at, total_two, total_one, total_empty, once_next}
 use Rattle.pg_board.proofs.MergeLemmas.{all_weaker, merges}
+
+abbrev pub entry : {T : Type 0} → ℕ → T → Entry T
+entry pass value = record { pass = pass; value = value }
 
 in_once : (p n : ℕ) → 1 ≤ once_below p n → p < n
 in_once p n h = grind (arith, nat_tests)

@@ -10,9 +10,6 @@ use Rattle.pg_board.specs.declared.puts.Puts.{Puts}
 use Rattle.pg_board.specs.declared.puts.PassView.{PassView}
 
 module _ {T : Type 0} where
-  abbrev pub entry : ℕ → T → Entry T
-  entry pass value = record { pass = pass; value = value }
-
   abbrev pub puts : ℕ → List T → Puts T
   puts pass values = record { pass = pass; values = values }
 

@@ -12,6 +12,7 @@ use Rattle.std.proofs.lemmas.Nat.Bits.{bit_at_ones_above}
 use Rattle.std.proofs.Math.Path.{fun_ext}
 use Rattle.pg_bytes.specs.Sets.{Bytes, union, complement, with, below}
 use Rattle.pg_bytes.specs.ByteSets.{in_words}
+use Rattle.std.proofs.Math.Bool.{or-true, or-false}
 
 small_or_large : (n : ℕ) → (n < 256) ⊎ (256 ≤ n)
 small_or_large n = grind arith
@@ -73,14 +74,6 @@ in_words-not ws fit = fun_ext (λ n. same_below _ _ at n ∙ and-not (ltb n 256)
         ap (λ w. eqb (bit_at w (n % 64)) 1) (word-at (λ k. 18446744073709551615 - get_or ws k 0) (n / 64) (omega arith))
         ∙ (ap (λ b. eqb b 1) (bit_at_not w64 (get_or ws (n / 64) 0) (n % 64) (fit (n / 64) (omega arith)) (omega arith))
         ∙ eqb-flip _ (bit_at-lt (get_or ws (n / 64) 0) (n % 64)))
-
-or-true : (x : Bool) → (x || true) ≡ true
-or-true true = refl
-or-true false = refl
-
-or-false : (x : Bool) → (x || false) ≡ x
-or-false true = refl
-or-false false = refl
 
 same_or_not : (m n : ℕ) → (m ≡ n) ⊎ (m ≢ n)
 same_or_not m n = grind arith

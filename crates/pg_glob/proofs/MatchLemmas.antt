@@ -1,15 +1,11 @@
 -- What pieces match, behind a `*` too (matching), and that this is what is computed (laws).
 use Rattle.std.proofs.Common.{ℕ, ◌≡◌, ◌≤◌, inl, inr, Bool, true, false, ◌&&◌, ◌||◌, List, [], ◌∷◌, ◌++◌, length}
 use Rattle.std.proofs.Common.{refl, ap, ◌∙◌, arith}
-use Rattle.std.proofs.lemmas.Bool.{or_cases}
+use Rattle.std.proofs.lemmas.Bool.{or_cases, or_right}
 use Rattle.pg_bytes.specs.Sets.{Bytes}
 use Rattle.pg_glob.specs.Brackets.{Text}
 use Rattle.pg_glob.specs.Globs.{Piece, AnyBytes, OneOf, Matches, matches}
 use Rattle.pg_glob.specs.Runs.{GoesOn}
-
-or-right : (a b : Bool) → b ≡ true → (a || b) ≡ true
-or-right true b h = refl
-or-right false b h = h
 
 and-right : (a b : Bool) → (a && b) ≡ true → b ≡ true
 and-right true b h = h
@@ -27,7 +23,7 @@ nothing-taken ps (x ∷ t) h = ap (λ b. b || matches (AnyBytes ∷ ps) t) h
 -- a `*` may take one byte more
 pub one-more : (ps : List Piece) (x : ℕ) (t : Text) →
     matches (AnyBytes ∷ ps) t ≡ true → matches (AnyBytes ∷ ps) (x ∷ t) ≡ true
-one-more ps x t h = or-right (matches ps (x ∷ t)) _ h
+one-more ps x t h = or_right (matches ps (x ∷ t)) _ h
 
 -- what a byte and more behind a `*` match goes on, behind that byte or a later one, with what that more matches
 pub behind-byte : (set : Bytes) (ps : List Piece) (x : ℕ) (t : Text) →

@@ -13,7 +13,7 @@ use Rattle.pg_selection.specs.BlockParts.{part_at, parts_of_lines}
 use Rattle.pg_lines.specs.Gathered.{IsNextLine}
 use Rattle.pg_selection.specs.declared.run.Run.{Run}
 use Rattle.pg_blocks.specs.declared.span.Span.{Span}
-use Rattle.pg_lines.proofs.GatherLemmas.{closed_run, gap_front}
+use Rattle.pg_lines.proofs.GatherLemmas.{closed_run, gap_front, is_empty}
 use Rattle.pg_blocks.proofs.LineLemmas.{lines-append, whole_append}
 use Rattle.pg_lines.proofs.PartLemmas.{no_parts}
 
@@ -79,10 +79,6 @@ line_front q at seen at' seen' text later runs (inr last) none place number h =
     let R : List Run → Type 0 = λ rs. AreRuns q at seen (text ++ later) rs in
     subst R (sym (no_run q at' seen' runs (subst P last h)))
     (subst Q (sym (ap (λ xs. text ++ xs) last ∙ append-nil text)) none)
-
-is_empty : (xs : List ℕ) → length xs ≤ 0 → xs ≡ []
-is_empty [] h = refl
-is_empty (x ∷ xs) h = absurd (omega arith)
 
 -- lines that are selected, in front of runs: one run more, unless there are none
 run_front : (q : Search) (at seen : ℕ) (text later : List ℕ) (run : Run) (runs : List Run)

@@ -68,7 +68,7 @@ gap_front q at seen gap rest (run ∷ runs) w none h =
 abbrev pub closed_run : Run → List Run
 closed_run run = cond (nat_lt run.span.start run.span.end) (run ∷ []) []
 
-is_empty : (xs : List ℕ) → length xs ≤ 0 → xs ≡ []
+pub is_empty : (xs : List ℕ) → length xs ≤ 0 → xs ≡ []
 is_empty [] h = refl
 is_empty (x ∷ xs) h = absurd (omega arith)
 

@@ -14,7 +14,7 @@ use Rattle.pg_literal.specs.declared.literal.Literal.{Literal}
 use Rattle.pg_literal.proofs.FoldLemmas.{length_searched}
 use Rattle.pg_lines.specs.Literals.{TellHeads}
 use Rattle.pg_selection.specs.Search.{SearchText, Pattern, Bounds, AreTreesOf, bounds_of}
-use Rattle.pg_selection.specs.Same.{same_trees}
+use Rattle.pg_selection.proofs.TreeLemmas.{same_trees}
 use Rattle.pg_lines.specs.Strings.{IsHead, FindsPart}
 use Rattle.pg_lines.specs.declared.strings.NextString.TheVariants.{Nowhere, Behind}
 use Rattle.pg_lines.proofs.NeedleLemmas.{next_none, next_some}

@@ -9,22 +9,9 @@ use Rattle.pg_literal.specs.declared.literal.Literal.{Literal}
 use Rattle.pg_pattern.specs.Hits.{HasHit as PatternsHaveHit}
 use Rattle.pg_blocks.specs.Lines.{IsLine}
 use Rattle.pg_selection.specs.Search.{SearchText, Pattern, AreTreesOf, bounds_of, terminator_of}
-use Rattle.pg_selection.specs.Same.{same_trees}
+use Rattle.pg_selection.proofs.TreeLemmas.{same_trees}
 use Rattle.pg_lines.specs.Literals.{data_of, IsEnough, AreLiterals}
-
--- an element as it is seen
-pub any-map : {X Y : Type 0} (P : Y → Type 0) (f : X → Y) (xs : List X) → Any (λ x. P (f x)) xs → Any P (map f xs)
-any-map P f xs h =
-    let x = h.1 in
-    (h.0, f x, omega (arith, h.2, length-map xs f), get_or-map f xs h.0 x (f x) h.2 ∙ ap f h.3, h.4)
-
--- and the other way round
-pub any-unmap : {X Y : Type 0} (P : Y → Type 0) (f : X → Y) (xs : List X) → Any P (map f xs) → Any (λ x. P (f x)) xs
-any-unmap P f [] h = absurd (omega (arith, h.2))
-any-unmap P f (x ∷ xs) (zero, y, less, is, p) = (0, x, omega arith, refl, subst P (sym is) p)
-any-unmap P f (x ∷ xs) (suc k, y, less, is, p) =
-    let later = any-unmap P f xs (k, y, omega (arith, less), is, p) in
-    (suc later.0, later.1, omega (arith, later.2), later.3, later.4)
+use Rattle.pg_literal.proofs.RowLemmas.{any-map, any-unmap}
 
 -- texts that are needed, and perhaps enough, for the patterns
 pub literals_are : {A : Type 0} (text : SearchText) (trees : List Pattern) → AreTreesOf text trees

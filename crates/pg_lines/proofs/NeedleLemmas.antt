@@ -21,8 +21,8 @@ use Rattle.pg_lines.specs.declared.needle.Needle.{Needle}
 use Rattle.pg_lines.specs.declared.needle.NeedleList.{NeedleList}
 use Rattle.pg_lines.specs.declared.needle.Place.{Place}
 use Rattle.pg_lines.specs.declared.needle.Candidate.{Candidate}
-use Rattle.pg_lines.proofs.LiteralLemmas.{any-unmap}
 use Rattle.pg_lines.proofs.RunLemmas.{NoneBefore, nowhere_lines, without_each, line_around, place_below, line_some}
+use Rattle.pg_literal.proofs.RowLemmas.{any-unmap}
 
 -- what occurs behind a place occurs in the whole
 pub occurs_whole : (xs p : List ℕ) (at k : ℕ) → at ≤ length xs → OccursAt (drop at xs) p k → OccursAt xs p (at + k)
@@ -106,24 +106,6 @@ plain_end text true = zero_or_newline text.zero
     zero_or_newline true = refl
     zero_or_newline false = refl
 
--- a needle stays ahead of later places
-ahead_later : (searched : List ℕ) (at later : ℕ) (needles : List Needle) → at ≤ later
-    → All (IsAhead searched at) needles → All (IsAhead searched later) needles
-ahead_later searched at later needles low all =
-    All-weaker (IsAhead searched at) (IsAhead searched later) (λ n is. record {
-      stands = is.stands;
-      first = λ k from o. is.first k (omega arith) o;
-    }) needles all
-
-pub needles_later : {A : Type 0} (text : SearchText) (bytes : List ℕ) (at later : ℕ) (needles : NeedleList A)
-    → at ≤ later
-    → IsNeedleList text bytes at needles → IsNeedleList text bytes later needles
-needles_later text bytes at later needles low are = record {
-  literals = are.literals;
-  searched = are.searched;
-  ahead = ahead_later needles.searched.now at later needles.needles.items low are.ahead;
-}
-
 -- a literal of the needles is that of one
 of_needle : (needles : List Needle) (l : LiteralData) → Contains (map literal_of needles) l
     → (n : Needle) × Contains needles n × (literal_of n ≡ l)
@@ -147,19 +129,6 @@ least_behind at needles place behind stands =
     let Behind : Needle → Type 0 = λ n. IfSome n.next (λ p. at ≤ p) in
     subst (λ o. IfSome o (λ p. at ≤ p)) stands.4.0
     (All-contains Behind needles stands.1 behind (stands.0, stands.2, stands.3))
-
--- the needles of the literals of a query, over the bytes as they are searched
-pub needles_new : {A : Type 0} (text : SearchText) (bytes : List ℕ) (literals : List LiteralData) (searched : List ℕ)
-    (needles : NeedleList A) → AreLiterals text literals
-    → (0 < length literals → searched ≡ as_searched text.fold bytes)
-    → needles.searched.now ≡ searched → map literal_of needles.needles.items ≡ literals
-    → All (IsAhead searched 0) needles.needles.items → IsNeedleList text bytes 0 needles
-needles_new text bytes literals searched needles are folded same own ahead = record {
-  literals = subst (AreLiterals text) (sym own) are;
-  searched = λ some.
-      same ∙ folded (omega (arith, some, ap length own, length-map needles.needles.items literal_of));
-  ahead = subst (λ xs. All (IsAhead xs 0) needles.needles.items) (sym same) ahead;
-}
 
 module _ (fold : Bool) (bytes searched : List ℕ) (at : ℕ) (needles : List Needle)
     (is : searched ≡ as_searched fold bytes)

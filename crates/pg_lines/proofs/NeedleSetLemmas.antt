@@ -20,9 +20,9 @@ use Rattle.pg_literal.specs.declared.literal.Literal.{Literal}
 use Rattle.pg_lines.specs.declared.literal_set.LiteralSet.{LiteralSet}
 use Rattle.pg_lines.specs.Literals.{LiteralData, flagged, set_literals, data_of, IsEnough, AreLiterals}
 use Rattle.pg_lines.specs.Candidates.{AreWithout, IsFirstWith}
-use Rattle.pg_lines.proofs.LiteralLemmas.{any-map, any-unmap}
 use Rattle.pg_lines.proofs.NeedleLemmas.{occurs_whole, occurs_part, searched_behind, searched_length}
 use Rattle.pg_lines.proofs.RunLemmas.{NoneBefore, nowhere_lines, without_each, line_around, place_below, line_some}
+use Rattle.pg_literal.proofs.RowLemmas.{any-map, any-unmap}
 
 -- literals with one flag, which is that of each of them where it is set
 pub set_are : (text : SearchText) (literals : List LiteralData) (strings : List (List ℕ)) (enough : Bool)

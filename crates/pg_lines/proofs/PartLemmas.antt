@@ -17,10 +17,10 @@ use Rattle.pg_blocks.specs.Lines.{lines, AreWhole, AreShort, terminated}
 use Rattle.pg_selection.specs.Search.{SearchText, Search, Pattern, Bounds, AreTreesOf, search_of, terminator, bounds_of}
 use Rattle.pg_selection.specs.Selection.{selects, parts, has_hit}
 use Rattle.pg_lines.specs.Queries.{Compiled, IsCompiled}
-use Rattle.pg_selection.specs.Same.{same_trees}
+use Rattle.pg_selection.proofs.TreeLemmas.{same_trees}
 use Rattle.pg_selection.specs.Runs.{AllLines}
 use Rattle.pg_selection.specs.BlockParts.{part_at, parts_of_lines}
-use Rattle.pg_lines.specs.Gathered.{IsNextLine, IsGathered, parts_before}
+use Rattle.pg_lines.specs.Gathered.{IsNextLine, IsGathered}
 use Rattle.pg_selection.specs.declared.run.Run.{Run}
 use Rattle.pg_selection.specs.declared.run.Part.{Part}
 use Rattle.pg_blocks.specs.declared.span.Span.{Span}
@@ -29,6 +29,11 @@ use Rattle.pg_lines.proofs.GatherLemmas.{passed, behind, before, passed_whole, p
 use Rattle.pg_lines.proofs.GatherLemmas.{line_text, front_length}
 use Rattle.pg_selection.proofs.RunLemmas.{lines_apart}
 use Rattle.pg_lines.proofs.RunLemmas.{all_back}
+
+-- the parts of the lines before a place, where they are asked for
+abbrev pub parts_before : Search → List ℕ → ℕ → List Part
+parts_before q bytes place =
+    if q.text.pieces then parts_of_lines q 0 0 (lines (terminator q) (take place bytes)) else []
 
 -- a line that is selected since nothing in it is matched has no part
 pub no_parts : (q : Search) (line : List ℕ) → q.text.invert ≡ true → selects q line ≡ true → parts q line ≡ []

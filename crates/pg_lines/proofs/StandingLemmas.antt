@@ -140,13 +140,6 @@ module _ (strings : List (List ℕ)) (bounds : Bounds) (line : List ℕ) (some :
         nowhere i behind (omega (arith, inside.0, inside.1)) (hit_somewhere i j hit)
   ]
 
-  -- nor behind the line
-  pub none_behind : (from at : ℕ) → NoneFrom strings bounds line from at → length line < at
-      → HasNoString strings bounds line from
-  none_behind from at none behind i j low hit =
-      let inside = hit_some i j hit in
-      none i j low (omega (arith, inside.0, inside.1)) hit
-
   module _ (from at place : ℕ) (none : NoneFrom strings bounds line from at)
       (first : NoneBefore (SomeStands strings line) at (length line) place) where
     -- up to the first place where a string stands there is none
@@ -177,15 +170,6 @@ module _ (strings : List (List ℕ)) (bounds : Bounds) (line : List ℕ) (some :
       longest = longest.2;
     }
 
--- the string that stands in a whole line is the line
-whole_occurs : (line s : List ℕ) → s ≡ line → OccursAt line s 0 × (0 + length s ≡ length line)
-whole_occurs line s is =
-    let P : List ℕ → Type 0 = λ t. OccursAt line t 0 × (0 + length t ≡ length line) in
-    subst P (sym is) (
-      record { fits = omega arith; reads = λ j less. let at : 0 + j ≡ j = omega arith in ap (λ k. get_or line k 0) at },
-      omega arith,
-    )
-
 -- and the other way round
 occurs_whole : (line s : List ℕ) → OccursAt line s 0 → 0 + length s ≡ length line → s ≡ line
 occurs_whole line s o same =
@@ -196,21 +180,6 @@ occurs_whole line s o same =
     ∙ get_or_default line k 0 d (omega (arith, less, same)))))
 
 module _ (strings : List (List ℕ)) (line : List ℕ) (some : All (λ s. 1 ≤ length s) strings) where
-  -- a line that is a string is the next one from its start on
-  pub whole_is_next : Contains strings line → IsNextString strings Whole line 0 0 (length line)
-  whole_is_next among =
-      let hit : IsStringHit strings Whole line 0 (length line) = record {
-        begins = refl;
-        ends = refl;
-        stands = (among.0, line, among.1, among.2, whole_occurs line line refl);
-      } in
-      record {
-        later = omega arith;
-        some = (hit_some strings Whole line some 0 (length line) hit).0;
-        hit = hit;
-        first = λ i j low before other. omega (arith, before);
-        longest = λ j other. let at = other.ends in omega (arith, at);
-      }
 
   -- a hit is the whole line
   pub hit_is_whole : (i j : ℕ) → IsStringHit strings Whole line i j → (i ≡ 0) × Contains strings line

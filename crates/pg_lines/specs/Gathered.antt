@@ -27,8 +27,3 @@ pub record IsGathered (q : Search) (bytes : List ℕ) (runs : List Run) (run : R
   pub count : run.count ≡ length (lines (terminator q) text)
   pub known : (more : List Run) → AreRuns q run.span.start run.first (text ++ rest) more
       → AreRuns q 0 0 bytes (runs ++ more)
-
--- the parts of the lines before a place, where they are asked for
-abbrev pub parts_before : Search → List ℕ → ℕ → List Part
-parts_before q bytes place =
-    if q.text.pieces then parts_of_lines q 0 0 (lines (terminator q) (take place bytes)) else []

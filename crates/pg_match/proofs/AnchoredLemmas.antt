@@ -6,7 +6,7 @@ use Rattle.std.specs.Prelude.{IfSome, slice_index, slice_get}
 use Rattle.std.proofs.lemmas.List.{get_or_read}
 use Rattle.std.proofs.lemmas.Option.{slice_get-get_or}
 use Rattle.std.proofs.lemmas.Bool.{cases_eq, cases_lt}
-use Rattle.pg_match.specs.Anchored.{StandsFrom, GoesAlone, ToldAlone, IsAnchoredMemoryOf, start_row}
+use Rattle.pg_match.specs.Anchored.{GoesAlone, ToldAlone, IsAnchoredMemoryOf, start_row}
 use Rattle.pg_match.specs.Anchored.{NothingBefore, TellsBegun, begun_of}
 use Rattle.pg_match.specs.Automata.{Nfa, Edge, Runs, IsRunnable}
 use Rattle.pg_pattern.specs.Bounds.{MayBegin, MayEnd}
@@ -25,6 +25,13 @@ use Rattle.pg_match.proofs.SearchLemmas.{edge_moves}
 use Rattle.pg_match.proofs.SkimLemmas.{no_cross}
 use Rattle.pg_match.proofs.StandsLemmas.{reads_edge, edge_reads, ends_here, ends_at_last}
 use Rattle.pg_match.proofs.StepLemmas.{edge_still}
+use Rattle.pg_match.specs.Closures.{Leads}
+
+-- S holds the states at p of the runs that began at s
+pub record StandsFrom (m : Nfa) (l : List ℕ) (s p : ℕ) (S : ℕ → Type 0) : Type 0 where
+  pub sound : (q : ℕ) → S q → Leads m.states l m.start s q p
+  pub complete : (n j : ℕ) → Runs m.states l n m.start s j → p ≤ j → (q : ℕ) × (k : ℕ) × S q × Runs m.states l k q p j
+  pub closed : p < length l → (q r : ℕ) → S q → Edge (slice_get m.states q) l p r p → S r
 
 -- where no span may begin none does
 pub nothing_here : (m : Nfa) (l : List ℕ) (s : ℕ) → (MayBegin m.bounds l s → ⊥) → NothingBefore m l s (s + 1)

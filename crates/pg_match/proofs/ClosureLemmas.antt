@@ -11,9 +11,39 @@ use Rattle.pg_bytes.specs.ByteSets.{bytes}
 use Rattle.pg_bytes.specs.declared.byte_set.ByteSet.{ByteSet}
 use Rattle.pg_match.specs.StateSets.{Members, mark, listed, IsGood, IsEmpty, Inserted, Counted}
 use Rattle.pg_match.specs.Closures.{Leads, ClosedAt, IsClosed, IsOrdered, AllBelow, Path, AreSeeds, Followed}
-use Rattle.pg_match.specs.Closures.{Reached, Reaching, Stepped, Stepping}
+use Rattle.pg_match.specs.Closures.{Reached, Stepped}
 use Rattle.pg_match.specs.declared.state.State.{State}
 use Rattle.pg_match.specs.declared.state.State.TheVariants.{Fail, Accept, Jump, Read, AtBegin, AtEnd, Split}
+use Rattle.pg_match.specs.Closures.{HasPaths}
+
+-- the same in the middle of it: the states from place k of the list on are still to be followed
+pub record Reaching (t : List State) (l : List ℕ) (i : ℕ) (old new : Members) (x start k : ℕ) : Type 0 where
+  pub good : IsGood new
+  pub size : length new.marks ≡ length old.marks
+  pub ordered : IsOrdered new
+  pub below : AllBelow new start
+  pub kept : (q : ℕ) → 0 < mark old q → mark new q ≡ mark old q
+  pub fresh : (q : ℕ) → mark old q ≡ 0 → 0 < mark new q → (mark new q ≡ start) × Leads t l x i q i
+  pub here : 0 < mark new x
+  pub upto : k ≤ new.len
+  pub paths : HasPaths t l i old new x
+  pub left : (j : ℕ) → k ≤ j → j < new.len
+      → (mark new (listed new j) ≡ start) × Leads t l x i (listed new j) i × ((n : ℕ) × Path t l i n x (listed new j))
+  pub done : (q : ℕ) → 0 < mark new q → ClosedAt t l i new q ⊎ ((j : ℕ) × (k ≤ j) × (j < new.len) × (listed new j ≡ q))
+  pub counted : Counted old new
+
+-- the same in the middle of it: the states before place k of the list are done
+pub record Stepping (t : List State) (l : List ℕ) (i : ℕ) (now next : Members) (limit k : ℕ) : Type 0 where
+  pub good : IsGood next
+  pub size : length next.marks ≡ length now.marks
+  pub closed : IsClosed t l (i + 1) next
+  pub ordered : IsOrdered next
+  pub below : (j : ℕ) → k ≤ j → j < now.len → AllBelow next (mark now (listed now j))
+  pub comes : (r : ℕ) → 0 < mark next r
+      → (q : ℕ) × (0 < mark now q) × (mark next r ≡ mark now q) × Leads t l q i r (i + 1)
+  pub goes : (j r : ℕ) → j < k → j < now.len → mark now (listed now j) ≤ limit
+      → Edge (slice_get t (listed now j)) l i r (i + 1)
+      → (0 < mark next r) × (mark next r ≤ mark now (listed now j))
 
 module _ (t : List State) (l : List ℕ) (i : ℕ) where
   -- a state that leads nowhere

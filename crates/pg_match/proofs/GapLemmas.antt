@@ -11,7 +11,7 @@ use Rattle.pg_match.specs.Sizes.{size_of}
 use Rattle.pg_match.specs.Automata.{target_below, IsTidy}
 use Rattle.pg_match.specs.Tables.{Optional, Implements, Keeps, NoAccept, KeepsWritten, Pushed, Added, AddedCopies}
 use Rattle.pg_match.specs.Tables.{AddedOptional}
-use Rattle.pg_match.specs.Gaps.{IsHole, IsGap, IsFilled, Finished, Leads, HasGap, Completes, Narrowed}
+use Rattle.pg_match.specs.Gaps.{IsHole, IsGap, IsFilled, Finished, Leads, HasGap, Narrowed}
 use Rattle.pg_match.specs.declared.build.Gap.{Gap}
 use Rattle.pg_match.specs.declared.build.Hole.{Hole}
 use Rattle.pg_match.specs.declared.state.State.{State}
@@ -19,6 +19,12 @@ use Rattle.pg_match.specs.declared.state.State.TheVariants.{Fail, Accept, Split}
 use Rattle.pg_match.proofs.TableLemmas.{plain_trans, keeps_trans, written, chain_kept, optional_kept, implements_kept}
 use Rattle.pg_match.proofs.TableLemmas.{set_is, set_other, set_written, set_plain, pushed_length, pushed_keeps}
 use Rattle.pg_match.proofs.TableLemmas.{pushed_is, pushed_tidy, pushed_plain, one_added, nothing}
+
+-- each table that has a part in the gap, from the state e on, has the whole, which goes on at the state x
+abbrev pub Completes : List State → Gap → Pattern → Pattern → ℕ → Type 0
+Completes t g part whole x =
+    (new : List State) (e w : ℕ) → KeepsWritten t new → Implements new part e g.next → Leads new g.hole e w
+    → Implements new whole w x
 
 written_trans : (a b c : List State) → KeepsWritten a b → KeepsWritten b c → KeepsWritten a c
 written_trans a b c f g q s other h = g q s other (f q s other h)

@@ -18,6 +18,7 @@ use Rattle.pg_match.specs.declared.state.State.TheVariants.{Accept}
 use Rattle.pg_match.proofs.SearchLemmas.{edge_moves}
 use Rattle.pg_match.proofs.StandsLemmas.{reads_edge, edge_reads, stands_first, stands_next}
 use Rattle.pg_match.proofs.CacheLemmas.{row_next, at_row, in_table}
+use Rattle.pg_match.proofs.BuildLemmas.{ended}
 
 -- where no state reads the byte, no run goes past it
 pub no_cross : (m : Nfa) (l : List ℕ) (p b : ℕ) (S : ℕ → Type 0) → slice_get l p ≡ Some b
@@ -146,11 +147,6 @@ skim_read_fresh m mem l from p u at start v f e is_m is lt more read big fresh i
 pub in_fresh : (m : Nfa) (mem : Remembered) (v : ℕ) → IsMemoryOf m mem → IsAtRow mem v → v / 256 < length mem.fresh
 in_fresh m mem v is row = omega (arith, row.known, is.shape.few, is.shape.fresh_size)
 
--- from state 0 a run goes no further
-accepted : (t : List State) (l : List ℕ) (n i j : ℕ) → slice_get t 0 ≡ Some Accept → Runs t l n 0 i j → i ≡ j
-accepted t l zero i j is run = run.1
-accepted t l (suc n) i j is run = absurd (subst (λ o. Edge o l i run.0 run.1) is run.2)
-
 -- where each seed that reads the byte ends a match behind it, each run from the start does
 one_byte : (t : List State) (l : List ℕ) (x i b : ℕ) (seeds : List ℕ) → AreSeeds t x seeds → slice_get l i ≡ Some b
     → i ≢ 0 → i < length l
@@ -169,7 +165,7 @@ one_byte t l x i b seeds are is some lt accept all (suc n) k j inside run past =
       | inr moves ↦
           let zero_r = all k run.0 inside
           (edge_reads (slice_get t q) l i b run.0 is (subst (λ v. Edge (slice_get t q) l i run.0 v) moves run.2)) in
-          sym (accepted t l n (i + 1) j accept
+          sym (ended t l n (i + 1) j accept
           (subst (λ r. Runs t l n r (i + 1) j) zero_r (subst (λ v. Runs t l n run.0 v j) moves run.3)))
     ]
 

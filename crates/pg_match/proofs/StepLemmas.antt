@@ -7,10 +7,28 @@ use Rattle.pg_bytes.specs.ByteSets.{bytes}
 use Rattle.pg_bytes.specs.declared.byte_set.ByteSet.{ByteSet}
 use Rattle.pg_match.specs.Automata.{Nfa, Edge}
 use Rattle.pg_match.specs.StateSets.{Members, mark, listed, IsGood, IsEmpty, Inserted, Counted}
-use Rattle.pg_match.specs.Steps.{Still, Reads, LeadsStill, Has, HasStill, Spread, Closed, Closing, Aimed, Goes, Starts}
+use Rattle.pg_match.specs.Steps.{Still, Reads, LeadsStill, Has, HasStill, Spread, Closed, Aimed, Goes, Starts}
 use Rattle.pg_match.specs.Steps.{ReadsNone, begins_after}
 use Rattle.pg_match.specs.declared.state.State.{State}
 use Rattle.pg_match.specs.declared.state.State.TheVariants.{Fail, Accept, Jump, Read, AtBegin, AtEnd, Split}
+use Rattle.std.specs.Prelude.{slice_index}
+
+-- the same in the middle of it: the states from place k of the list on are still to be followed
+pub record Closing (t : List State) (first last : Bool) (old new : Members) (k : ℕ) : Type 0 where
+  pub good : IsGood new
+  pub size : length new.marks ≡ length old.marks
+  pub kept : (r : ℕ) → Has old r → Has new r
+  pub fresh : (r : ℕ) → Has new r → (q : ℕ) × Has old q × LeadsStill t first last q r
+  pub upto : k ≤ new.len
+  pub done : (q : ℕ) → Has new q
+      → HasStill t first last (Has new) q ⊎ ((j : ℕ) × (k ≤ j) × (j < new.len) × (listed new j ≡ q))
+  pub longer : old.len ≤ new.len
+  pub counted : Counted old new
+
+-- the same of the first k states, of which some reads the byte if that is told
+pub record EndsSoFar (t : List State) (states : List ℕ) (b k : ℕ) (some : Bool) : Type 0 where
+  pub found : IsTrue some → (j : ℕ) × (j < k) × Reads (slice_get t (slice_index states j)) b 0
+  pub all : (j r : ℕ) → j < k → Reads (slice_get t (slice_index states j)) b r → r ≡ 0
 
 -- an edge that reads nothing is one at such a place
 pub still_edge : (f e : Bool) (o : Option State) (l : List ℕ) (i r : ℕ) → (IsTrue f → i ≡ 0) → (IsTrue e → i ≡ length l)

@@ -12,12 +12,6 @@ use Rattle.pg_match.specs.declared.dfa_anchored.Begun.{Begun}
 use Rattle.pg_match.specs.declared.dfa_anchored.Begun.TheVariants.{Longest, Nothing, Unknown}
 use Rattle.pg_match.specs.declared.state.State.{State}
 
--- S holds the states at p of the runs that began at s
-pub record StandsFrom (m : Nfa) (l : List ℕ) (s p : ℕ) (S : ℕ → Type 0) : Type 0 where
-  pub sound : (q : ℕ) → S q → Leads m.states l m.start s q p
-  pub complete : (n j : ℕ) → Runs m.states l n m.start s j → p ≤ j → (q : ℕ) × (k : ℕ) × S q × Runs m.states l k q p j
-  pub closed : p < length l → (q r : ℕ) → S q → Edge (slice_get m.states q) l p r p → S r
-
 -- from S alone, with no start behind the byte, the byte leads to U, but for what needs the line's end
 pub record GoesAlone (t : List State) (b : ℕ) (S U : ℕ → Type 0) : Type 0 where
   pub comes : (r : ℕ) → U r → (q : ℕ) × (y : ℕ) × S q × Reads (slice_get t q) b y × LeadsStill t false false y r

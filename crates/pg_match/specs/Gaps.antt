@@ -41,12 +41,6 @@ pub record HasGap (old new : List State) (g : Gap) : Type 0 where
   pub longer : length old ≤ length new
   pub gap_in : IsGap (length old) new g
 
--- each table that has a part in the gap, from the state e on, has the whole, which goes on at the state x
-abbrev pub Completes : List State → Gap → Pattern → Pattern → ℕ → Type 0
-Completes t g part whole x =
-    (new : List State) (e w : ℕ) → KeepsWritten t new → Implements new part e g.next → Leads new g.hole e w
-    → Implements new whole w x
-
 -- the table grew, so that the gap for a pattern is one for its first part
 pub record Narrowed (old new : List State) (g h : Gap) (whole part : Pattern) : Type 0 where
   pub has : (first : List State) → HasGap first old g → HasGap first new h

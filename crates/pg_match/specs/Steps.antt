@@ -72,18 +72,6 @@ pub record Closed (t : List State) (first last : Bool) (old new : Members) : Typ
   pub longer : old.len ≤ new.len
   pub counted : Counted old new
 
--- the same in the middle of it: the states from place k of the list on are still to be followed
-pub record Closing (t : List State) (first last : Bool) (old new : Members) (k : ℕ) : Type 0 where
-  pub good : IsGood new
-  pub size : length new.marks ≡ length old.marks
-  pub kept : (r : ℕ) → Has old r → Has new r
-  pub fresh : (r : ℕ) → Has new r → (q : ℕ) × Has old q × LeadsStill t first last q r
-  pub upto : k ≤ new.len
-  pub done : (q : ℕ) → Has new q
-      → HasStill t first last (Has new) q ⊎ ((j : ℕ) × (k ≤ j) × (j < new.len) × (listed new j ≡ q))
-  pub longer : old.len ≤ new.len
-  pub counted : Counted old new
-
 -- the states that the byte leads to from the first k states, without what these lead to
 pub record Aimed (t : List State) (b : ℕ) (now next : Members) (k : ℕ) : Type 0 where
   pub good : IsGood next
@@ -126,11 +114,6 @@ ReadsNone m b S = (q r : ℕ) → S q → Reads (slice_get m.states q) b r → �
 pub record EndsBehind (t : List State) (states : List ℕ) (b : ℕ) : Type 0 where
   pub some : (k : ℕ) × (k < length states) × Reads (slice_get t (slice_index states k)) b 0
   pub all : (k r : ℕ) → k < length states → Reads (slice_get t (slice_index states k)) b r → r ≡ 0
-
--- the same of the first k states, of which some reads the byte if that is told
-pub record EndsSoFar (t : List State) (states : List ℕ) (b k : ℕ) (some : Bool) : Type 0 where
-  pub found : IsTrue some → (j : ℕ) × (j < k) × Reads (slice_get t (slice_index states j)) b 0
-  pub all : (j r : ℕ) → j < k → Reads (slice_get t (slice_index states j)) b r → r ≡ 0
 
 -- a match ends right before the byte
 abbrev pub HitBefore : Nfa → ℕ → (ℕ → Type 0) → Type 0

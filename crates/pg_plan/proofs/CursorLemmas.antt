@@ -18,12 +18,19 @@ use Rattle.pg_plan.specs.Plan.{Step, Opens, Announces, Ends, Misses, IsShaped, i
 use Rattle.pg_plan.specs.Plan.{with_bytes, with_end}
 use Rattle.pg_base.specs.Sink.{IsBeginning}
 use Rattle.pg_rows.specs.Trail.{run, run_rows, run_pieces}
-use Rattle.pg_plan.specs.Cursor.{Cursor, moved, cursor_of, block_rows, counted, named, step_rows}
-use Rattle.pg_plan.proofs.ListLemmas.{or_none}
+use Rattle.pg_plan.specs.Cursor.{Cursor, moved, cursor_of, block_rows, counted, named}
 use Rattle.pg_rows.proofs.ModeLemmas.{no_end, nothing_in, rows_are}
 use Rattle.pg_rows.proofs.TrailLemmas.{IsTrail, no_trail}
 use Rattle.pg_rows.proofs.FoldLemmas.{trail_more, rows_more, pieces_more, count_by_trail, name_by_trail, something}
 use Rattle.pg_rows.proofs.FoldLemmas.{some_append, run_some}
+use Rattle.std.proofs.Math.Bool.{or-false}
+
+-- what a step adds to the output
+abbrev pub step_rows : Search → Format → Cursor → Step → List ℕ
+step_rows q format c (Opens name) = []
+step_rows q format c (Announces b) = rows_in format.mode (block_rows q format c b.bytes) [] []
+step_rows q format c (Ends failed) = rows_in format.mode [] (counted format c) (named format c)
+step_rows q format c (Misses name) = []
 
 pub joined_push : (xs : List BlockData) (b : BlockData) → joined (xs ++ b ∷ []) ≡ joined xs ++ b.bytes
 joined_push xs b = flat_map-append (λ (x : BlockData). x.bytes) xs (b ∷ [])
@@ -184,7 +191,7 @@ module _ (q : Search) (format : Format) (limited : is_below 0 format.limit ≡ t
 
     cursor_open : (name : List ℕ) → IsCursor (Opens name ∷ p) (moved q format c (Opens name))
     cursor_open name = record {
-      wrote = λ plain. or_none (c.earlier || c.trail.some) ∙ (h.wrote plain ∙ ap something (sym (open_rows name p)));
+      wrote = λ plain. or-false (c.earlier || c.trail.some) ∙ (h.wrote plain ∙ ap something (sym (open_rows name p)));
       file = λ _. record {
         bytes = [];
         rest = entries_of p;

@@ -18,10 +18,3 @@ moved q format c (Misses name) = c
 abbrev pub cursor_of : Search → Format → List Step → Cursor
 cursor_of q format [] = at_start
 cursor_of q format (step ∷ plan) = moved q format (cursor_of q format plan) step
-
--- what a step adds to the output
-abbrev pub step_rows : Search → Format → Cursor → Step → List ℕ
-step_rows q format c (Opens name) = []
-step_rows q format c (Announces b) = rows_in format.mode (block_rows q format c b.bytes) [] []
-step_rows q format c (Ends failed) = rows_in format.mode [] (counted format c) (named format c)
-step_rows q format c (Misses name) = []

@@ -16,11 +16,6 @@ pub if_err : {T E : Type 0} (P Q : E → Type 0) (r : Result T E) → IsErrAnd r
 if_err P Q (Ok x) h f = tt
 if_err P Q (Err e) h f = f e h
 
--- nothing is said of the Ok of an error
-pub ok_of_err : {T E : Type 0} (r : Result T E) (P : Type 0) → IsErr r → OnOk r P
-ok_of_err (Ok x) P h = absurd (false≢true h)
-ok_of_err (Err e) P h = tt
-
 -- one more file was read
 pub read_next : (paths contents : List (List ℕ)) (path content : List ℕ) (past mid past' : List Given)
     → HasRead past mid paths contents → past' ≡ File path content Ended ∷ mid

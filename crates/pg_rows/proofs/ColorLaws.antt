@@ -37,10 +37,6 @@ clean [] h = tt
 clean (x ∷ xs) h =
     (λ e. h (0, omega arith, e), clean xs (λ c. h (suc c.0, omega (arith, c.1), c.2)))
 
-clean_append : (xs ys : List ℕ) → IsClean xs → IsClean ys → IsClean (xs ++ ys)
-clean_append [] ys h k = k
-clean_append (x ∷ xs) ys h k = (h.0, clean_append xs ys h.1 k)
-
 clean_take : (n : ℕ) (xs : List ℕ) → IsClean xs → IsClean (take n xs)
 clean_take zero xs h = tt
 clean_take (suc n) [] h = tt

@@ -6,10 +6,7 @@ use Rattle.std.proofs.lemmas.Bool.{and_from, and_right, or_left, or_right, or_fr
 use Rattle.std.proofs.lemmas.Bool.{cases_lt}
 use Rattle.std.proofs.lemmas.List.Folds.{list_any-append}
 use Rattle.pg_rows.specs.Output.{is_near}
-
-pub or_false : (b : Bool) → (b || false) ≡ b
-or_false true = refl
-or_false false = refl
+use Rattle.std.proofs.Math.Bool.{or-false}
 
 pub range_more : (a n : ℕ) → range_with_len a (suc n) ≡ range_with_len a n ++ (a + n) ∷ []
 range_more a zero = let e : a ≡ a + 0 = omega arith in ap (λ (x : ℕ). x ∷ []) e
@@ -21,7 +18,7 @@ pub any_more : (f : ℕ → Bool) (a n : ℕ) →
     list_any f (range_with_len a (suc n)) ≡ (list_any f (range_with_len a n) || f (a + n))
 any_more f a n =
     ap (list_any f) (range_more a n) ∙ (list_any-append f (range_with_len a n) ((a + n) ∷ [])
-    ∙ ap (λ t. list_any f (range_with_len a n) || t) (or_false (f (a + n))))
+    ∙ ap (λ t. list_any f (range_with_len a n) || t) (or-false (f (a + n))))
 
 pub any_same : (f g : ℕ → Bool) (a n : ℕ) → ((j : ℕ) → a ≤ j → j < a + n → f j ≡ g j)
     → list_any f (range_with_len a n) ≡ list_any g (range_with_len a n)
@@ -70,7 +67,7 @@ module _ (kept kept' : ℕ → Bool) (B A n d cd : ℕ) (same : (j : ℕ) → j 
   -- a line that isn't kept changes nothing
   pub near_same : kept' n ≡ false → (i : ℕ) → is_near kept' B A (suc n) i ≡ is_near kept B A n i
   near_same unkept i = near_more kept kept' B A n i same
-      ∙ (ap (λ t. is_near kept B A n i || (t && is_at B A n i)) unkept ∙ or_false (is_near kept B A n i))
+      ∙ (ap (λ t. is_near kept B A n i || (t && is_at B A n i)) unkept ∙ or-false (is_near kept B A n i))
 
   -- a line that is kept brings those before it
   pub near_new : kept' n ≡ true → (i : ℕ) → i ≤ n
@@ -89,7 +86,7 @@ module _ (kept kept' : ℕ → Bool) (B A n d cd : ℕ) (same : (j : ℕ) → j 
 
   pub old_below : kept' n ≡ true → (i : ℕ) → i < d → is_near kept' B A (suc n) i ≡ is_near kept B A n i
   old_below chosen i below = near_new chosen i (omega (arith, h.low)) ∙ elim (cases_lt (i + B) n) [
-    | inl out ↦ ap (λ t. is_near kept B A n i || t) (lt-leb n (i + B) out) ∙ or_false (is_near kept B A n i)
+    | inl out ↦ ap (λ t. is_near kept B A n i || t) (lt-leb n (i + B) out) ∙ or-false (is_near kept B A n i)
     | inr inside ↦ let e = h.dense i below inside in or_left (is_near kept B A n i) _ e ∙ sym e
   ]
 

@@ -98,20 +98,6 @@ pub painted_more : (bytes : List ℕ) (from to k : ℕ) (ps : List Part) (d : Pa
     ++ painted_bytes bytes (get_or ps k d).span.end to (drop (k + 1) ps)
 painted_more bytes from to k ps d below = ap (painted_bytes bytes from to) (drop_more ps k d below)
 
-pub ascend_more : (from to k : ℕ) (ps : List Part) (d : Part) → k < length ps → AreAscending from to (drop k ps)
-    → AreAscending from to (get_or ps k d ∷ drop (k + 1) ps)
-ascend_more from to k ps d below h =
-    let P : List Part → Type 0 = λ xs. AreAscending from to xs in subst P (drop_more ps k d below) h
-
-pub ascend_last : (from to k : ℕ) (ps : List Part) → length ps ≤ k → AreAscending from to (drop k ps) → from ≤ to
-ascend_last from to k ps last h =
-    let P : List Part → Type 0 = λ xs. AreAscending from to xs in subst P (drop_all k ps last) h
-
--- no part ends behind the place that ends them
-pub ascend_within : (from to : ℕ) (ps : List Part) → AreAscending from to ps → from ≤ to
-ascend_within from to [] h = h
-ascend_within from to (p ∷ ps) h = omega (arith, h.0, h.1, h.2)
-
 -- How the lines of a block share its parts.
 
 count_own : (limit at seen : ℕ) (ps : List (ℕ × ℕ)) (later : List Part) → seen < limit
@@ -262,23 +248,6 @@ pub record AreToPrint (q : Search) (format : Format) (end : ℕ) (name : List �
       (marked_rows format end name 58 (painted q format) number offset (lines end (drop from bytes)))
       (marked_rows format end name 58 (painted q format) (number + done) (offset + (at - from))
       (lines end (drop at bytes))) before after
-
-pub none_printed : (q : Search) (format : Format) (end : ℕ) (name : List ℕ) (number offset : ℕ) (bytes : List ℕ)
-    (from line : ℕ) (parts : List Part) (before : Stream) → AreToldParts q true end bytes from line parts
-    → AreToPrint q format end name number offset bytes from line parts from 0 0 before before
-none_printed q format end name number offset bytes from line parts before told =
-    let ls = lines end (drop from bytes) in
-    let rows : ℕ → ℕ → List ℕ = λ n o. marked_rows format end name 58 (painted q format) n o ls in
-    let same_line : line ≡ line + 0 = omega arith in
-    let same_number : number ≡ number + 0 = omega arith in
-    let same_offset : offset ≡ offset + (from - from) = omega arith in
-    let P : ℕ → Type 0 = λ n. WritesAllBut (rows number offset) (rows n (offset + (from - from))) before before in
-    let Q : ℕ → Type 0 = λ o. WritesAllBut (rows number offset) (rows number o) before before in
-    record {
-      told = told.parts_are refl ∙ ap (λ n. told_of_lines q from n ls) same_line;
-      selected = told.selected;
-      left = subst P same_number (subst Q same_offset (left_whole (rows number offset) before));
-    }
 
 -- the next line: its parts, its row, and what is left behind it
 pub record PrintsLine (q : Search) (format : Format) (end : ℕ) (name : List ℕ) (number offset : ℕ) (bytes : List ℕ)

@@ -26,9 +26,16 @@ use Rattle.pg_rows.specs.Output.{is_below, row, told_parts, when}
 use Rattle.pg_rows.specs.Trail.{Trail, keeps, after_kept, after_context, after_other, with_offset, step, run_pieces}
 use Rattle.pg_rows.specs.Trail.{pieces_in}
 use Rattle.pg_rows.specs.Stretch.{part_row, part_rows, IsPartOf, no_part, AllSelected}
-use Rattle.pg_rows.specs.Pieces.{cut_at, told_of_lines, HasFound}
+use Rattle.pg_rows.specs.Pieces.{cut_at, told_of_lines}
 use Rattle.pg_rows.proofs.StretchLemmas.{passed_pieces, full_unkept, step_kept, step_unkept}
 use Rattle.pg_rows.proofs.BlockLemmas.{AreStretches, stretches}
+use Rattle.pg_rows.specs.Remembered.{HasLines}
+
+-- what was found in a block: where its selected lines stand, how many lines it has, and the parts that are told
+pub record HasFound (q : Search) (bytes : List ℕ) (runs : List Run) (parts : List Part) (count : ℕ) : Type 0 where
+  pub found_lines : HasLines q bytes runs count
+  pub found_parts : parts
+      ≡ (if q.text.pieces then parts_of_lines q 0 0 (lines (terminator q) bytes) else [])
 
 -- A part stands in its line.
 

@@ -24,7 +24,8 @@ use Rattle.pg_rows.specs.declared.window.Window.{Window}
 use Rattle.pg_rows.specs.Output.{context, is_below, painted, size_of}
 use Rattle.pg_rows.specs.Trail.{run_rows, run_pieces}
 use Rattle.pg_rows.specs.Stretch.{part_rows, AllSelected}
-use Rattle.pg_rows.specs.Pieces.{cut_at, told_of_lines, HasFound}
+use Rattle.pg_rows.specs.Pieces.{cut_at, told_of_lines}
+use Rattle.pg_rows.proofs.PieceLemmas.{HasFound}
 use Rattle.pg_rows.specs.Painting.{count_before}
 use Rattle.pg_rows.specs.Cursor.{Cursor}
 use Rattle.pg_rows.specs.Window.{held, IsWindow}

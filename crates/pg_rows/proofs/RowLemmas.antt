@@ -15,6 +15,7 @@ use Rattle.pg_rows.specs.Colors.{in_color, name_color, number_color, mark_color,
 use Rattle.pg_rows.specs.Output.{is_nothing, name_end, name_text, number_text, has_prefix, size_of, tab_before, when}
 use Rattle.pg_rows.specs.Output.{row}
 use Rattle.pg_rows.specs.Stretch.{has_text, marked_rows, plain, plain_prefix_text, prefix_text, part_row, part_rows}
+use Rattle.std.proofs.Math.Bool.{and-false}
 
 pub row_is : (format : Format) (end : ℕ) (name : List ℕ) (number offset mark : ℕ) (text : List ℕ)
     → row format end name number offset mark text
@@ -42,13 +43,6 @@ plain_prefix format name number offset mark has_text off =
         ≡ rest (when format.names (name ++ cond null (0 ∷ []) (mark ∷ [])))
     marked true = refl
     marked false = refl
-
--- the text of a part is something where it is in color, or there is a text
-pub part_some : (colored : Bool) (text : List ℕ)
-    → (colored || not (length text == 0)) ≡ not (is_nothing (in_color colored part_color text))
-part_some true text = refl
-part_some false [] = refl
-part_some false (x ∷ xs) = grind (arith, nat_tests)
 
 -- the rows of lines, and of lines behind them
 pub marked_append : (format : Format) (end : ℕ) (name : List ℕ) (mark : ℕ) (text : List ℕ → List ℕ)
@@ -85,10 +79,6 @@ marked_one format end name mark number offset (l ∷ []) one =
     (sym (append-nil (l ++ end ∷ []))))
 marked_one format end name mark number offset (l ∷ k ∷ ls) one = absurd (omega arith)
 
-no_tab : (tabs : Bool) → (tabs && false) ≡ false
-no_tab false = refl
-no_tab true = refl
-
 -- rows with nothing before their texts
 pub marked_bare : (format : Format) (end : ℕ) (name : List ℕ) (mark number offset : ℕ) (ls : List (List ℕ))
     → format.names ≡ false → format.numbers ≡ false → format.offsets ≡ false
@@ -105,7 +95,7 @@ marked_bare format end name mark number offset (l ∷ ls) names numbers offsets 
     ∙ (ap (λ t. (when t first ++ when format.offsets second ++ tab false t format.offsets ++ l ++ end ∷ []) ++ later)
     numbers
     ∙ (ap (λ t. (when t second ++ tab false false t ++ l ++ end ∷ []) ++ later) offsets
-    ∙ (ap (λ t. (when t (9 ∷ []) ++ l ++ end ∷ []) ++ later) (no_tab format.tabs)
+    ∙ (ap (λ t. (when t (9 ∷ []) ++ l ++ end ∷ []) ++ later) (and-false format.tabs)
     ∙ ap (λ xs. (l ++ end ∷ []) ++ xs)
     (marked_bare format end name mark (number + 1) (offset + (length l + 1)) ls names numbers offsets))))
 

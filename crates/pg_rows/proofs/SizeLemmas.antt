@@ -8,7 +8,7 @@ use Rattle.std.proofs.lemmas.List.{take-append-drop}
 use Rattle.pg_selection.specs.Search.{Search}
 use Rattle.pg_selection.specs.Selection.{selects}
 use Rattle.pg_blocks.specs.Lines.{lines, terminated, AreWhole}
-use Rattle.pg_blocks.proofs.LineLemmas.{terminated-lines}
+use Rattle.pg_blocks.proofs.LineLemmas.{terminated-lines, whole_tail}
 use Rattle.pg_rows.specs.declared.format.Format.{Format}
 use Rattle.pg_rows.specs.Output.{context, size_of}
 use Rattle.pg_rows.specs.Trail.{Trail, keeps, after_kept, after_context, after_other, with_offset, step, run}
@@ -31,11 +31,6 @@ size_terminated end (l ∷ ls) =
     omega arith
 
 -- what is left of whole lines behind a place are whole lines
-
-whole_tail : (end b : ℕ) (bytes : List ℕ) → AreWhole end (b ∷ bytes) → AreWhole end bytes
-whole_tail end b bytes (inl e) = absurd (cc)
-whole_tail end b bytes (inr ([], e)) = inl (ap (drop 1) e)
-whole_tail end b bytes (inr (x ∷ front, e)) = inr (front, ap (drop 1) e)
 
 pub whole_drop : (end k : ℕ) (bytes : List ℕ) → AreWhole end bytes → AreWhole end (drop k bytes)
 whole_drop end zero bytes w = w

@@ -14,9 +14,28 @@ use Rattle.pg_rows.specs.declared.format.Format.{Format}
 use Rattle.pg_rows.specs.Output.{is_below, context, gap_text, size_of, when, row, has_separators, painted}
 use Rattle.pg_rows.specs.Trail.{Trail, keeps, after_kept, after_context, after_other, step, run, run_rows, pieces_in}
 use Rattle.pg_rows.specs.Trail.{run_pieces, gap_row, context_rows, kept_rows, with_offset}
-use Rattle.pg_rows.specs.Stretch.{marked_rows, plain, AllSelected, AreUnkept, IsPassed, IsKept}
-use Rattle.pg_rows.proofs.NearLemmas.{or_false}
+use Rattle.pg_rows.specs.Stretch.{marked_rows, plain, AllSelected, AreUnkept}
 use Rattle.pg_rows.proofs.WindowLemmas.{kept_all}
+use Rattle.std.proofs.Math.Bool.{or-false}
+
+-- what lines of which none is kept leave remembered: the first ones are shown as trailing context
+pub record IsPassed (format : Format) (t : Trail) (ls : List (List ℕ)) (later : Trail) : Type 0 where
+  pub number : later.number ≡ t.number + length ls
+  pub kept : later.kept ≡ t.kept
+  pub countdown : later.countdown ≡ t.countdown - length ls
+  pub some : later.some ≡ t.some
+  pub skipped : later.skipped
+      ≡ (t.skipped || nat_lt (context format.before) (length t.window + length (drop t.countdown ls)))
+  pub window : later.window ≡ keep_last (context format.before) (t.window ++ drop t.countdown ls)
+
+-- what so many lines, at least one, that are all kept leave remembered
+pub record IsKept (format : Format) (t : Trail) (count : ℕ) (later : Trail) : Type 0 where
+  pub number : later.number ≡ t.number + count
+  pub kept : later.kept ≡ t.kept + count
+  pub countdown : later.countdown ≡ context format.after
+  pub some : later.some ≡ true
+  pub skipped : later.skipped ≡ false
+  pub window : later.window ≡ []
 
 -- Lines behind lines.
 
@@ -167,7 +186,7 @@ passed_counted q format t [] count same fits unkept =
       some = refl;
       skipped = sym (ap (λ b. t.skipped || b)
           (ap (λ xs. nat_lt before (length t.window + length xs)) none
-          ∙ le-ltb before (length t.window + 0) (omega arith)) ∙ or_false t.skipped);
+          ∙ le-ltb before (length t.window + 0) (omega arith)) ∙ or-false t.skipped);
       window = sym (ap (λ xs. keep_last before (t.window ++ xs)) none
           ∙ (ap (keep_last before) (append-nil t.window) ∙ kept_all before t.window fits));
     }

@@ -15,20 +15,7 @@ use Rattle.pg_rows.specs.Stretch.{marked_rows, plain}
 use Rattle.pg_rows.specs.Window.{tail_lines, lines_in, IsTail, AreHeld, GivesUp}
 use Rattle.pg_rows.proofs.RowLemmas.{marked_append}
 use Rattle.pg_rows.proofs.SizeLemmas.{size_append}
-
--- bytes don't have more lines than bytes
-pub few_lines : (end : ℕ) (xs : List ℕ) → length (lines end xs) ≤ length xs
-few_lines end [] = omega arith
-few_lines end (b ∷ xs) =
-    let rest = few_lines end xs in
-    elim (eqb b end) as (λ t. length (cond t ([] ∷ lines end xs) (onto_first b (lines end xs))) ≤ suc (length xs)) [
-      | true ↦ omega arith
-      | false ↦ more b (lines end xs) (length xs) rest
-    ]
-  where
-    more : (b : ℕ) (ls : List (List ℕ)) (n : ℕ) → length ls ≤ n → length (onto_first b ls) ≤ suc n
-    more b [] n h = omega arith
-    more b (l ∷ ls) n h = omega arith
+use Rattle.pg_blocks.proofs.CountLemmas.{few_lines}
 
 pub drop_both : {X : Type 0} (n : ℕ) (xs ys : List X) → drop n (xs ++ ys) ≡ drop n xs ++ drop (n - length xs) ys
 drop_both zero xs ys = let e : 0 - length xs ≡ 0 = omega arith in ap (λ k. xs ++ drop k ys) (sym e)
@@ -122,7 +109,7 @@ held_pop end (u ∷ ts) count size t h e =
 pub kept_all : {X : Type 0} (size : ℕ) (xs : List X) → length xs ≤ size → keep_last size xs ≡ xs
 kept_all size xs le = ap (λ k. drop k xs) (let none : length xs - size ≡ 0 = omega arith in none)
 
-all_push : {X : Type 0} (P : X → Type 0) (xs : List X) (x : X) → AllByRecursion P xs → P x
+pub all_push : {X : Type 0} (P : X → Type 0) (xs : List X) (x : X) → AllByRecursion P xs → P x
     → AllByRecursion P (xs ++ x ∷ [])
 all_push P [] x h p = (p, tt)
 all_push P (y ∷ ys) x h p = (h.0, all_push P ys x h.1 p)

@@ -22,9 +22,3 @@ told_of_lines q at seen [] = []
 told_of_lines q at seen (l ∷ ls) =
     (if selects q l then map (part_at at seen) (told_parts q l) else [])
     ++ told_of_lines q (at + (length l + 1)) (seen + 1) ls
-
--- what was found in a block: where its selected lines stand, how many lines it has, and the parts that are told
-pub record HasFound (q : Search) (bytes : List ℕ) (runs : List Run) (parts : List Part) (count : ℕ) : Type 0 where
-  pub found_lines : HasLines q bytes runs count
-  pub found_parts : parts
-      ≡ (if q.text.pieces then parts_of_lines q 0 0 (lines (terminator q) bytes) else [])

@@ -47,25 +47,6 @@ AllSelected q selected ls = AllByRecursion (λ l. selects q l ≡ selected) ls
 abbrev pub AreUnkept : Search → Format → Trail → List (List ℕ) → Type 0
 AreUnkept q format t ls = AllByRecursion (λ l. keeps format t (selects q l) ≡ false) ls
 
--- what lines of which none is kept leave remembered: the first ones are shown as trailing context
-pub record IsPassed (format : Format) (t : Trail) (ls : List (List ℕ)) (later : Trail) : Type 0 where
-  pub number : later.number ≡ t.number + length ls
-  pub kept : later.kept ≡ t.kept
-  pub countdown : later.countdown ≡ t.countdown - length ls
-  pub some : later.some ≡ t.some
-  pub skipped : later.skipped
-      ≡ (t.skipped || nat_lt (context format.before) (length t.window + length (drop t.countdown ls)))
-  pub window : later.window ≡ keep_last (context format.before) (t.window ++ drop t.countdown ls)
-
--- what so many lines, at least one, that are all kept leave remembered
-pub record IsKept (format : Format) (t : Trail) (count : ℕ) (later : Trail) : Type 0 where
-  pub number : later.number ≡ t.number + count
-  pub kept : later.kept ≡ t.kept + count
-  pub countdown : later.countdown ≡ context format.after
-  pub some : later.some ≡ true
-  pub skipped : later.skipped ≡ false
-  pub window : later.window ≡ []
-
 -- what a row has before its text, where it has a text or not
 abbrev pub prefix_text : Format → List ℕ → (number offset mark : ℕ) → Bool → List ℕ
 prefix_text format name number offset mark has_text =

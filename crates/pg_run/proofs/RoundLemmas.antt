@@ -23,7 +23,6 @@ use Rattle.pg_plan.proofs.ArrivalLaws.{first_is_taken}
 use Rattle.pg_base.specs.Sink.{Stream, IsBeginning}
 use Rattle.pg_seq.specs.Standing.{IsAfter}
 use Rattle.pg_plan.proofs.BeginLemmas.{shape_of}
-use Rattle.pg_seq.proofs.StandLemmas.{all_push}
 use Rattle.pg_run.specs.Outcome.{NoneFailed}
 use Rattle.pg_run.specs.Holding.{Aim, HasPlan, AllIsWritten, BreaksOffInSearch, SearchCause, past_of, format_of}
 use Rattle.pg_run.specs.Holding.{SearchesFor, output_of, waiting}
@@ -38,6 +37,7 @@ use Rattle.pg_run.specs.Faults.{fault_of_round}
 use Rattle.pg_round.specs.declared.fault.RoundFault.{RoundFault}
 use Rattle.pg_round.specs.declared.fault.RoundFault.TheVariants.{OutOfMemory as NoMemory, Sink as RoundSink}
 use Rattle.pg_run.proofs.HoldLemmas.{any_more, own_key, handed_is}
+use Rattle.pg_rows.proofs.WindowLemmas.{all_push}
 
 -- A block that was taken stays so.
 

@@ -2,3 +2,4 @@ pub mod Examples
 pub mod RunLemmas
 pub mod SameLemmas
 pub mod SelectLemmas
+pub mod TreeLemmas

@@ -1,15 +1,13 @@
 -- Queries are compared by their texts: the kind, the pattern lists and the options.
 use Rattle.std.specs.Prelude.{◌≡◌, ℕ, Bool, true, false, ◌&&◌, ◌==◌, List, [], ◌∷◌, refl}
-use Rattle.std.specs.Cmp.{IsEquivalence, on_equiv}
+use Rattle.std.specs.Cmp.{IsEquivalence}
 use Rattle.std.specs.Cmp.Lexicographic.{pointwise}
-use Rattle.std.proofs.Common.{ap, ap₂, sym, subst, ◌∙◌, arith}
+use Rattle.std.proofs.Common.{ap, ◌∙◌, arith}
 use Rattle.std.proofs.lemmas.Bool.{false≢true, and_parts, and_from, eqb-true, eq-eqb}
 use mathlib.Core.Bool.{beq}
 use Rattle.pg_grammar.specs.Same.{same_patterns, patterns_equal, equivalence_of}
 pub use Rattle.pg_grammar.specs.Same.{TestsEqual}
-use Rattle.pg_grammar.specs.ListResults.{AreSpelled}
-use Rattle.pg_selection.specs.Search.{SearchText, Search, Patterns, Pattern, Kind, Basic, Extended, Fixed}
-use Rattle.pg_selection.specs.Search.{AreTreesOf, HasItsTrees, patterns}
+use Rattle.pg_selection.specs.Search.{SearchText, Patterns, Kind, Basic, Extended, Fixed}
 
 abbrev pub kind_number : Kind → ℕ
 kind_number Basic = 0
@@ -22,9 +20,6 @@ same_text a b =
     (kind_number a.kind == kind_number b.kind) && pointwise same_patterns a.lists b.lists && beq a.fold b.fold
     && beq a.whole b.whole && beq a.word b.word && beq a.invert b.invert && beq a.pieces b.pieces
     && beq a.zero b.zero
-
-abbrev pub same_search : Search → Search → Bool
-same_search a b = same_text a.text b.text
 
 beq_sound : (a b : Bool) → beq a b ≡ true → a ≡ b
 beq_sound true true e = refl
@@ -122,27 +117,3 @@ text_equal = record { sound = text_sound; complete = text_complete }
 
 pub same_text-laws : IsEquivalence same_text
 same_text-laws = equivalence_of text_equal
-
-pub same_search-laws : IsEquivalence same_search
-same_search-laws = on_equiv (λ (q : Search). q.text) same_text-laws
-
-spelled_once : (kind : Kind) (fold : Bool) (texts : List (List ℕ)) (ps qs : List Pattern)
-    → AreSpelled kind fold texts ps → AreSpelled kind fold texts qs → ps ≡ qs
-spelled_once kind fold [] [] [] a b = refl
-spelled_once kind fold [] [] (q ∷ qs) a b = absurd b
-spelled_once kind fold [] (p ∷ ps) qs a b = absurd a
-spelled_once kind fold (t ∷ ts) [] qs a b = absurd a
-spelled_once kind fold (t ∷ ts) (p ∷ ps) [] a b = absurd b
-spelled_once kind fold (t ∷ ts) (p ∷ ps) (q ∷ qs) a b =
-    ap₂ (λ x xs. x ∷ xs) (sym (a.0.only q b.0.spells)) (spelled_once kind fold ts ps qs a.1 b.1)
-
--- patterns spell one list of trees
-pub same_trees : (text : SearchText) (ps qs : List Pattern) → AreTreesOf text ps → AreTreesOf text qs → ps ≡ qs
-same_trees text = spelled_once text.kind text.fold (patterns text.lists)
-
--- the text of a query determines its trees
-pub same_query : (q r : Search) → HasItsTrees q → HasItsTrees r → q.text ≡ r.text → q ≡ r
-same_query q r a b e =
-    let P : SearchText → Type 0 = λ t. AreTreesOf t q.trees in
-    let trees : q.trees ≡ r.trees = same_trees r.text q.trees r.trees (subst P e a) b in
-    ap (λ t. record q { text = t }) e ∙ ap (λ ts. record r { trees = ts }) trees

@@ -27,20 +27,22 @@ use Rattle.pg_seq.specs.declared.assembler.Assembler.{Assembler}
 use Rattle.pg_plan.specs.Plan.{Step, Opens, Announces, Ends, IsPlan, IsShaped, is_open, announced, entries_of}
 use Rattle.pg_plan.specs.History.{Past, plan, taken_of, is_taken, all_taken, front, front_after, front_of}
 use Rattle.pg_plan.specs.Cursor.{cursor_of}
-use Rattle.pg_seq.specs.Coming.{behind, blocks_of, openings}
+use Rattle.pg_seq.specs.Coming.{behind, openings}
+use Rattle.pg_seq.proofs.ComingLemmas.{blocks_of}
 use Rattle.pg_seq.specs.Slots.{slot_block, has_result, slot_selects, ready, IsResultOf}
 use Rattle.pg_seq.specs.Buffer.{HasResult}
 use Rattle.pg_seq.specs.Standing.{IsAfter, opening_of}
 use Rattle.pg_seq.specs.Ahead.{HasLookedAhead, IsAtFront, is_over, block_selects, is_enough_by}
 use Rattle.pg_seq.proofs.EnoughLemmas.{suffices_by_cursor}
 use Rattle.pg_seq.proofs.FrontLemmas.{front_all, front_shaped}
-use Rattle.pg_plan.proofs.ListLemmas.{heads, tails, no_cons, or_none}
+use Rattle.pg_plan.proofs.ListLemmas.{heads, tails, no_cons}
 use Rattle.pg_plan.proofs.BeginLemmas.{shape_of}
 use Rattle.pg_seq.proofs.SelectLemmas.{runs_of, some_runs}
 use Rattle.pg_seq.proofs.ComingLemmas.{of_done, all_push, front_stops, announced_behind, rest_same, AreMissed}
 use Rattle.pg_seq.proofs.ComingLemmas.{next_file, NextStep, Nothing, Block, End, next_step, is_over as over_by}
 use Rattle.pg_seq.proofs.StandLemmas.{selected_entries, slot_selected, halves}
 use Rattle.pg_seq.proofs.DrainSteps.{last_by, few_numbers, done_taken, here}
+use Rattle.std.proofs.Math.Bool.{or-false}
 
 module _ {A : Type 0} (s : Assembler A) (past : Past) (h : IsAfter s past) where
   -- whether a line is selected in the blocks that were handed out
@@ -364,7 +366,7 @@ module _ {A : Type 0} (s : Assembler A) (past : Past) (h : IsAfter s past) (a : 
           selected = list_any-append (block_selects q) (announced done) (w.block ∷ [])
               ∙ (ap (λ t. t || (block_selects q w.block || false)) i.selected
               ∙ (ap (λ t. a.selected || t)
-              (or_none (block_selects q w.block) ∙ sym (some_runs q w.block.bytes runs are))
+              (or-false (block_selects q w.block) ∙ sym (some_runs q w.block.bytes runs are))
               ∙ sym selected));
         }
 

@@ -17,6 +17,7 @@ use Rattle.pg_seq.specs.Slots.{place_of, at_place, slot_block, has_result, arriv
 use Rattle.pg_seq.specs.Slots.{arrival_among, with_result, IsResultOf}
 use Rattle.pg_seq.proofs.KeyLemmas.{AreApart, is_other}
 use Rattle.pg_plan.proofs.ListLemmas.{heads, tails}
+use Rattle.pg_blocks.proofs.CutLaws.{same_block}
 
 taken_same : (keys : List (ℕ × ℕ)) (a b : BlockData) → a.file ≡ b.file → a.number ≡ b.number
     → is_taken keys a ≡ is_taken keys b
@@ -28,13 +29,6 @@ double_taken e = cc
 
 pub stranger_taken : Stranger ≡ Taken → ⊥
 stranger_taken e = cc
-
-pub piece_same : (a b : BlockData) → a.file ≡ b.file → a.number ≡ b.number → a.bytes ≡ b.bytes → a ≡ b
-piece_same a b f n bs =
-    let F : ℕ → BlockData = λ x. record { file = x; number = a.number; bytes = a.bytes } in
-    let N : ℕ → BlockData = λ x. record { file = b.file; number = x; bytes = a.bytes } in
-    let B : List ℕ → BlockData = λ x. record { file = b.file; number = b.number; bytes = x } in
-    ap F f ∙ (ap N n ∙ ap B bs)
 
 -- the block at an index has the file and the number of the arrived one
 abbrev pub IsFor : List BlockData → ℕ → BlockData → Type 0
@@ -160,11 +154,6 @@ module _ {A : Type 0} where
   same_blocks [] k r = refl
   same_blocks (x ∷ slots) zero r = refl
   same_blocks (x ∷ slots) (suc k) r = ap (λ ys. slot_block x ∷ ys) (same_blocks slots k r)
-
-  pub same_length : (slots : List (Slot A)) (k : ℕ) (r : Searched) → length (with_result slots k r) ≡ length slots
-  same_length [] k r = refl
-  same_length (x ∷ slots) zero r = refl
-  same_length (x ∷ slots) (suc k) r = ap suc (same_length slots k r)
 
   -- a slot without a result stands behind those that have theirs
   pub held_back : (gone slots : List (Slot A)) (k : ℕ) (slot : Slot A)

@@ -12,8 +12,16 @@ use Rattle.pg_rows.specs.Output.{output}
 use Rattle.pg_plan.specs.Plan.{Step, Opens, Announces, Ends, Misses, IsShaped, is_open, announced, entries_of}
 use Rattle.pg_plan.specs.History.{is_taken, all_taken, front}
 use Rattle.pg_plan.specs.Cursor.{cursor_of}
-use Rattle.pg_seq.specs.Coming.{behind, blocks_of, openings}
+use Rattle.pg_seq.specs.Coming.{behind, openings}
 use Rattle.pg_seq.proofs.FrontLemmas.{front_all}
+
+-- their blocks
+abbrev pub blocks_of : List Step → List BlockData
+blocks_of [] = []
+blocks_of (Opens name ∷ coming) = blocks_of coming
+blocks_of (Announces block ∷ coming) = block ∷ blocks_of coming
+blocks_of (Ends failed ∷ coming) = blocks_of coming
+blocks_of (Misses name ∷ coming) = blocks_of coming
 
 pub behind_push : (done coming : List Step) (s : Step) → behind done (coming ++ s ∷ []) ≡ s ∷ behind done coming
 behind_push done [] s = refl

@@ -6,10 +6,7 @@ use Rattle.std.proofs.lemmas.List.{length_push}
 use Rattle.std.proofs.lemmas.List.Concat.{flat_map-append}
 use Rattle.pg_blocks.specs.Blocks.{BlockData, joined}
 use Rattle.pg_plan.specs.Plan.{Step, Opens, Announces, Ends, Misses, IsPlan, opened, announced, last_blocks}
-
-not_empty : (bytes : List ℕ) → bytes ≢ [] → 0 < length bytes
-not_empty [] h = absurd (h refl)
-not_empty (b ∷ bytes) h = omega arith
+use Rattle.pg_blocks.proofs.LineLaws.{some_bytes}
 
 -- a file's blocks have a byte each, and it isn't too long
 record IsShort (p : List Step) : Type 0 where
@@ -25,7 +22,7 @@ file_short end (Announces b ∷ p) h =
     let total = length-append (joined (last_blocks p)) (b.bytes ++ []) in
     let one = length-append b.bytes [] in
     record {
-      bytes = omega (arith, before.bytes, all, total, one, length_push (last_blocks p) b, not_empty b.bytes h.0.0.some);
+      bytes = omega (arith, before.bytes, all, total, one, length_push (last_blocks p) b, some_bytes b.bytes h.0.0.some);
       small = omega (arith, all, total, one, h.0.1.small);
     }
 file_short end (Ends failed ∷ p) h =

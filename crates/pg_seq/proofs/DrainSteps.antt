@@ -23,18 +23,21 @@ use Rattle.pg_seq.specs.declared.slot.Slot.{Slot}
 use Rattle.pg_seq.specs.declared.assembler.Assembler.{Assembler}
 use Rattle.pg_plan.specs.Plan.{Step, Opens, Announces, Ends, IsPlan, IsShaped, is_open, announced, entries_of}
 use Rattle.pg_plan.specs.History.{Past, plan, taken_of, is_taken, all_taken, front, front_after, handed, handed_after}
-use Rattle.pg_plan.specs.Cursor.{cursor_of, step_rows}
-use Rattle.pg_seq.specs.Coming.{behind, blocks_of, openings}
+use Rattle.pg_plan.specs.Cursor.{cursor_of}
+use Rattle.pg_plan.proofs.CursorLemmas.{step_rows}
+use Rattle.pg_seq.specs.Coming.{behind, openings}
+use Rattle.pg_seq.proofs.ComingLemmas.{blocks_of}
 use Rattle.pg_seq.specs.Slots.{slot_block, has_result, slot_selects, ready, IsResultOf}
 use Rattle.pg_seq.specs.Buffer.{SameButRoom, HandsOut, HasResult}
 use Rattle.pg_seq.specs.Standing.{IsAfter, HasWrittenAll, wrote, opening_of, is_last_block, is_at_end}
 use Rattle.pg_seq.proofs.FrontLemmas.{all_map, front_all, front_shaped}
-use Rattle.pg_plan.proofs.ListLemmas.{heads, tails, no_cons, or_none}
+use Rattle.pg_plan.proofs.ListLemmas.{heads, tails, no_cons}
 use Rattle.pg_plan.proofs.BeginLemmas.{begins_trans, shape_of}
 use Rattle.pg_plan.proofs.CursorLemmas.{cursor_is, output_step, open_rows, plan_begins}
 use Rattle.pg_seq.proofs.ComingLemmas.{of_done, all_push, front_stops, front_has, AreMissed, next_file}
 use Rattle.pg_seq.proofs.ComingLemmas.{is_over, NextStep, Nothing, Block, End, next_step}
 use Rattle.pg_seq.proofs.StandLemmas.{all, halves, IsAlike, rested, all_push as each_push}
+use Rattle.std.proofs.Math.Bool.{or-false}
 
 pub last_by : {A : Type 0} (items : List (Opening A)) (more : Bool) (held n : ℕ)
     → is_last_block items more held n ≡ is_over (map opening_of items) more held n
@@ -442,7 +445,7 @@ module _ {A : Type 0} (s : Assembler A) (past : Past) (h : IsAfter s past) where
     where
       selected_more : (gone : List (Slot A)) (x : Slot A)
           → (list_any (slot_selects q) gone || slot_selects q x) ≡ list_any (slot_selects q) (gone ++ x ∷ [])
-      selected_more gone x = ap (λ b. list_any (slot_selects q) gone || b) (sym (or_none (slot_selects q x)))
+      selected_more gone x = ap (λ b. list_any (slot_selects q) gone || b) (sym (or-false (slot_selects q x)))
           ∙ sym (list_any-append (slot_selects q) gone (x ∷ []))
 
   -- a part of the rows was written

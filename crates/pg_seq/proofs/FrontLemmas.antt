@@ -43,12 +43,6 @@ front_taken taken [] = refl
 front_taken taken (s ∷ p) = front_taken_by taken s p (all_taken taken (s ∷ p)) refl (front_taken taken p)
 
 module _ {A : Type 0} where
-  pub all_ready : (slots : List (Slot A)) → ready slots ≡ length slots → list_all (λ b. b) (map has_result slots) ≡ true
-  all_ready [] e = refl
-  all_ready (x ∷ slots) e =
-      let b : has_result x ≡ true = cond_pos (has_result x) (ready slots) (omega arith) in
-      let h : cond (has_result x) (1 + ready slots) 0 ≡ 1 + ready slots = ap (λ b. cond b (1 + ready slots) 0) b in
-      and_from (has_result x) _ b (all_ready slots (omega arith))
 
   pub ready_all : (slots : List (Slot A)) → list_all (λ b. b) (map has_result slots) ≡ true → ready slots ≡ length slots
   ready_all [] e = refl

@@ -2,7 +2,7 @@
 use Rattle.std.proofs.Common.{◌≡◌, ℕ, ◌+◌, ◌<◌, ◌≤◌, inl, inr, Bool, true, false, ◌&&◌, ◌||◌, cond}
 use Rattle.std.proofs.Common.{eqb, Option, Some, None, List, [], ◌∷◌, ◌++◌, length, refl, sym, ap, ◌∙◌, subst, arith}
 use Rattle.std.specs.List.{AllByRecursion, find}
-use Rattle.std.proofs.lemmas.Bool.{ne_eqb, cases_eq, and_left, and_right, and_parts, eqb-true}
+use Rattle.std.proofs.lemmas.Bool.{ne_eqb, cases_eq, and_left, and_right, and_parts, eqb-true, or_from}
 use Rattle.std.proofs.lemmas.List.{length_push}
 use Rattle.pg_selection.specs.Search.{Search}
 use Rattle.pg_selection.specs.Same.{same_text}
@@ -115,10 +115,6 @@ keys_known end q (Arrived r ∷ events) h =
     (find (is_block r.block.file r.block.number) (announced (plan_of events))) _ h refl refl
     (keys_known end q events h)
 
-fresh_by : (a b : Bool) → a ≡ false → b ≡ false → (a || b) ≡ false
-fresh_by true b e f = absurd (cc)
-fresh_by false b e f = f
-
 other_key : (p : List Step) (key : ℕ × ℕ) (b : BlockData) → IsKnown p key → b.file + 1 ≡ opened p
     → b.number ≡ length (last_blocks p) → (eqb b.file key.0 && eqb b.number key.1) ≡ false
 other_key p key b h file number =
@@ -128,7 +124,7 @@ none_taken : (p : List Step) (keys : List (ℕ × ℕ)) (b : BlockData) → AllB
     → b.file + 1 ≡ opened p → b.number ≡ length (last_blocks p) → is_taken keys b ≡ false
 none_taken p [] b h file number = refl
 none_taken p (key ∷ keys) b h file number =
-    fresh_by _ _ (other_key p key b h.0 file number) (none_taken p keys b h.1 file number)
+    or_from _ _ (other_key p key b h.0 file number) (none_taken p keys b h.1 file number)
 
 -- the next block was not taken
 pub next_not_taken : (end : ℕ) (q : Search) (events : List Event) (b : BlockData) → IsShaped end (plan_of events)

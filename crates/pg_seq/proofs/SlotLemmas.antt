@@ -54,9 +54,3 @@ module _ {A : Type 0} where
       none [] are h = refl
       none (x ∷ xs) are h = ap (λ b. b || list_any (slot_selects q) xs) (h 0 x (omega arith) (omega arith) are.0)
           ∙ none xs are.1 (λ k d low high. h (suc k) d (omega arith) (omega arith))
-
-  -- the first slot and the others
-  pub first_slot : (slots rest : List (Slot A)) (slot : Slot A) → 0 < length slots → slot ≡ get_or slots 0 slot
-      → rest ≡ drop 1 slots → slots ≡ slot ∷ rest
-  first_slot [] rest slot some is e = absurd (omega arith)
-  first_slot (x ∷ slots) rest slot some is e = ap (λ y. y ∷ slots) (sym is) ∙ ap (λ xs. slot ∷ xs) (sym e)

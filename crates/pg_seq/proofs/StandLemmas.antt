@@ -32,7 +32,8 @@ use Rattle.std.specs.Arc.{arc_value}
 use Rattle.std.specs.Prelude.{Result, Ok, Err, OnOk, OnErr}
 use Rattle.pg_plan.specs.History.{Past, start, plan, planned, arrived, answer, answer_after, arrival_at, taken_of}
 use Rattle.pg_plan.specs.History.{taken_after, is_taken, is_block, all_taken, front_after, IsComplete, status_of}
-use Rattle.pg_seq.specs.Coming.{blocks_of, openings}
+use Rattle.pg_seq.specs.Coming.{openings}
+use Rattle.pg_seq.proofs.ComingLemmas.{blocks_of}
 use Rattle.pg_plan.specs.Cursor.{at_start, cursor_of}
 use Rattle.pg_seq.specs.Slots.{place_of, at_place, slot_block, has_result, arrival_among, with_result, IsResultOf}
 use Rattle.pg_seq.specs.Slots.{slot_selects, result_selects, ready}
@@ -47,9 +48,11 @@ use Rattle.pg_plan.proofs.CursorLemmas.{cursor_is, closed_joined}
 use Rattle.pg_seq.proofs.PlaceLemmas.{starts_length, find_place}
 use Rattle.pg_seq.proofs.KeyLemmas.{AreApart, announced_apart, find_passes, next_not_taken}
 use Rattle.pg_seq.proofs.CountLemmas.{few_blocks}
-use Rattle.pg_plan.proofs.ListLemmas.{or_none}
-use Rattle.pg_seq.proofs.ArriveLemmas.{at_slot, taken_means, IsTaken, block_at, piece_same, held_back, taken_one}
+use Rattle.pg_seq.proofs.ArriveLemmas.{at_slot, taken_means, IsTaken, block_at, held_back, taken_one}
 use Rattle.pg_seq.proofs.ArriveLemmas.{same_blocks, results_with, stranger_taken}
+use Rattle.std.proofs.Math.Bool.{or-false}
+use Rattle.pg_blocks.proofs.CutLaws.{same_block}
+use Rattle.pg_rows.proofs.WindowLemmas.{all_push}
 
 -- an open file's entry ends the plan's files
 bad_ended : (failed : Bool) (es : List Entry) (name bytes : List ℕ) (rest : List Entry)
@@ -59,17 +62,12 @@ bad_ended failed es name bytes rest e = ap (λ xs. list_any is_bad (with_end fai
   where
     turn : (f r : Bool) → list_any is_bad (Read name bytes (cond f Failed Ended) ∷ rest) ≡ (list_any is_bad rest || f)
     turn true r = sym (or_right (list_any is_bad rest) true refl)
-    turn false r = sym (or_none (list_any is_bad rest))
+    turn false r = sym (or-false (list_any is_bad rest))
 
 bad_more : (bytes : List ℕ) (es : List Entry) → list_any is_bad (with_bytes bytes es) ≡ list_any is_bad es
 bad_more bytes [] = refl
 bad_more bytes (Missed name ∷ es) = refl
 bad_more bytes (Read name old ending ∷ es) = refl
-
-pub all_push : {X : Type 0} (P : X → Type 0) (xs : List X) (x : X) → AllByRecursion P xs → P x
-    → AllByRecursion P (xs ++ x ∷ [])
-all_push P [] x h p = (p, tt)
-all_push P (y ∷ xs) x h p = (h.0, all_push P xs x h.1 p)
 
 pub selected_entries : (q : Search) (format : Format) → HasRoom format → (p : List Step) → IsShaped (terminator q) p
     → list_any (has_selected q) (entries_of p) ≡ list_any (block_selects q) (announced p)
@@ -184,12 +182,6 @@ module _ {A : Type 0} where
   pub held_results : (s : Assembler A) (past : Past) → IsAfter s past
       → AllByRecursion (IsResultOf past.query) s.buffer.slots.items
   held_results s past h = all_later (IsResultOf past.query) h.gone s.buffer.slots.items h.results
-
-  pub first_result : (s : Assembler A) (past : Past) (slot : Slot A) (later : List (Slot A)) → IsAfter s past
-      → s.buffer.slots.items ≡ slot ∷ later → IsResultOf past.query slot
-  first_result s past slot later h e =
-      let P : List (Slot A) → Type 0 = λ xs. AllByRecursion (IsResultOf past.query) xs in
-      (subst P e (held_results s past h)).0
 
   -- The blocks that were handed out, and those that weren't.
   pub record Halves (s : Assembler A) (past : Past) (h : IsAfter s past) : Type 0 where
@@ -602,7 +594,7 @@ module _ {A : Type 0} where
       ≡ Some known =
       ap (at_place (map slot_block old)) t.is ∙ block_at old k t.slot t.at in
       let n = block_named s past h b.file b.number known here in
-      let block : b ≡ known = piece_same b known (sym n.0) (sym n.1) t.bytes in
+      let block : b ≡ known = same_block b known (sym n.0) (sym n.1) t.bytes in
       let after : taken_of past.query (arrived past r).events ≡ (known.file, known.number) ∷ keys =
       ap (λ a. taken_after a b keys) is ∙ ap (λ (x : BlockData). (x.file, x.number) ∷ keys) block in
       let behind : s.buffer.handed ≤ k =

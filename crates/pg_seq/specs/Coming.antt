@@ -8,14 +8,6 @@ abbrev pub behind : List Step → List Step → List Step
 behind done [] = done
 behind done (step ∷ coming) = behind (step ∷ done) coming
 
--- their blocks
-abbrev pub blocks_of : List Step → List BlockData
-blocks_of [] = []
-blocks_of (Opens name ∷ coming) = blocks_of coming
-blocks_of (Announces block ∷ coming) = block ∷ blocks_of coming
-blocks_of (Ends failed ∷ coming) = blocks_of coming
-blocks_of (Misses name ∷ coming) = blocks_of coming
-
 -- the names of the files that they open, each with the number of blocks before it
 abbrev pub openings : ℕ → List Step → List (ℕ × List ℕ)
 openings before [] = []

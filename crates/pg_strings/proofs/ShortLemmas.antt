@@ -5,7 +5,7 @@ use Rattle.std.proofs.Common.{◌≡◌, ℕ, zero, suc, ◌+◌, ◌*◌, ◌<�
 use Rattle.std.proofs.Common.{length, get_or, refl, sym, ap, ◌∙◌, arith, subst, inl, inr}
 use Rattle.std.specs.Prelude.{slice_index, slice_index_or, replicate}
 use Rattle.std.specs.List.{All, Any, list_any}
-use Rattle.std.proofs.lemmas.Bool.{cases_lt}
+use Rattle.std.proofs.lemmas.Bool.{cases_lt, or_parts}
 use Rattle.std.proofs.lemmas.Grind.{common_steps}
 use Rattle.std.proofs.lemmas.List.{get_or_default}
 use Rattle.std.proofs.lemmas.List.Folds.{Any-from_list_any, list_any-from_Any}
@@ -166,11 +166,6 @@ longest_clear strings bytes place none none' = record {
             absurd cc
       ];
 }
-
--- two flags of which neither is set
-pub both_clear : (a b : Bool) → (a || b) ≡ false → (a ≡ false) × (b ≡ false)
-both_clear true b clear = absurd (let h : true ≡ false = clear in cc)
-both_clear false b clear = (refl, clear)
 
 -- where no string is short, none stands
 pub longest_none : (strings : List (List ℕ)) (bytes : List ℕ) (place : ℕ) → AreLonger strings

@@ -5,10 +5,11 @@ use Rattle.pg_grammar.specs.Grammar as G
 use Rattle.pg_grammar.specs.Grammar.{Body, Expression, Spells}
 use Rattle.pg_syntax.specs.Expressions.{kind_of}
 use Rattle.pg_grammar.specs.declared.syntax.Syntax.TheVariants as S
-use Rattle.pg_syntax.specs.Machine.{State, start, whole, next, Completes, done, step}
+use Rattle.pg_syntax.specs.Machine.{State, start, whole}
+use Rattle.pg_syntax.proofs.Reading.{next, Completes, done, step}
 use Rattle.pg_grammar.specs.declared.syntax.Syntax.{Syntax}
 use Rattle.pg_syntax.proofs.Complete.{complete}
-use Rattle.pg_syntax.proofs.Sound.{sound}
+use Rattle.pg_syntax.proofs.Sound.{sound, after_rest}
 
 -- what an expression of a syntax is
 pub body_of : (syntax : Syntax) (fold : Bool) (text : List ℕ) (p : Pattern) → Expression (kind_of syntax) fold text p
@@ -25,10 +26,6 @@ abbrev state_or : State → Option (State × List ℕ) → State
 state_or s None = s
 state_or s (Some x) = x.0
 
-abbrev rest_or : List ℕ → Option (State × List ℕ) → List ℕ
-rest_or t None = t
-rest_or t (Some x) = x.1
-
 module _ (syntax : Syntax) (fold : Bool) where
   -- after a step the same patterns are left
   pub stepped : (s s' : State) (t rest : List ℕ) (p : Pattern) → next syntax fold s t ≡ Some (s', rest)
@@ -37,7 +34,7 @@ module _ (syntax : Syntax) (fold : Bool) where
   stepped s s' t rest p e (step {s' = s2} f c) =
       let g = sym f ∙ e in
       subst (λ x. Completes syntax fold x rest p) (ap (state_or s) g)
-      (subst (λ x. Completes syntax fold s2 x p) (ap (rest_or t) g) c)
+      (subst (λ x. Completes syntax fold s2 x p) (ap (after_rest t) g) c)
 
   pub stuck : (s : State) (t : List ℕ) (p : Pattern) → next syntax fold s t ≡ None → t ≢ []
       → Completes syntax fold s t p → ⊥

@@ -2,7 +2,7 @@
 use Rattle.std.proofs.Common.{ℕ, zero, suc, ◌≡◌, ◌≤◌, ◌+◌, Bool, true, false, not, cond, ◌&&◌, ◌||◌, eqb, leb, List, []}
 use Rattle.std.proofs.Common.{◌∷◌, ◌++◌, length, Option, Some, None, option_and_then, inl, inr, refl, sym, ap, ◌∙◌}
 use Rattle.std.proofs.Common.{subst, append_assoc, length-append, arith}
-use Rattle.std.proofs.lemmas.Bool.{eqb-true, eq-eqb, ne_eqb, leb-true, false≢true}
+use Rattle.std.proofs.lemmas.Bool.{eqb-true, eq-eqb, ne_eqb, leb-true, false≢true, or_parts, and_right}
 use Rattle.std.proofs.lemmas.Bool.Decides.{nat_tests}
 use Rattle.pg_bytes.specs.Sets.{Bytes, empty, union, between, complement}
 use Rattle.pg_pattern.specs.Patterns.{folded}
@@ -14,14 +14,6 @@ use Rattle.pg_syntax.specs.BracketReading.{bracket}
 use Rattle.pg_grammar.specs.Brackets as B
 use Rattle.pg_syntax.proofs.IntervalLemmas.{chosen, chosen_true, chosen_false, both}
 
-neither : (x y : Bool) → (x || y) ≡ false → (x ≡ false) × (y ≡ false)
-neither false y e = (refl, e)
-neither true y e = absurd (false≢true (sym e))
-
-and_right : (x y : Bool) → y ≡ false → (x && y) ≡ false
-and_right true y e = e
-and_right false y e = refl
-
 -- what is enclosed
 until_again : (c : ℕ) (w rest : List ℕ) → eqb c 93 ≡ false → has_end c w ≡ false
     → until c (w ++ (c ∷ 93 ∷ rest)) ≡ Some (w, rest)
@@ -30,7 +22,7 @@ until_again c [] rest n h = chosen_true (eqb c c && eqb 93 93) (Some ([], rest))
 until_again c (a ∷ []) rest n h = chosen_false _ _ _ _ (and_right (eqb a c) (eqb c 93) n)
     (ap (with_byte a) (until_again c [] rest n refl))
 until_again c (a ∷ b ∷ w) rest n h =
-    let k = neither (eqb a c && eqb b 93) (has_end c (b ∷ w)) h in
+    let k = or_parts (eqb a c && eqb b 93) (has_end c (b ∷ w)) h in
     chosen_false _ _ _ _ k.0 (ap (with_byte a) (until_again c (b ∷ w) rest n k.1))
 
 abbrev content_or : List ℕ → Content → List ℕ

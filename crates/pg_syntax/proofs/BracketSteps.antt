@@ -9,20 +9,17 @@ use Rattle.pg_grammar.specs.Brackets.{Element, member, end_point, is_dash, Singl
 use Rattle.pg_syntax.specs.BracketReading.{unite, range_of, Mode, Fresh, Held, Dashed, Ranged, Barred, members_of}
 use Rattle.pg_syntax.specs.BracketReading.{Reading, read, add, go, put_in, put, finish_in, finish, Elements}
 use Rattle.pg_syntax.specs.BracketReading.{with_element, inside_at, enclosed_at, element_at, rest_of}
+use Rattle.std.proofs.Math.Bool.{or-false}
 
 or_assoc : (x y z : Bool) → ((x || y) || z) ≡ (x || (y || z))
 or_assoc true y z = refl
 or_assoc false y z = refl
 
-or_none : (x : Bool) → (x || false) ≡ x
-or_none true = refl
-or_none false = refl
-
 union_assoc : (s t u : Bytes) → union (union s t) u ≡ union s (union t u)
 union_assoc s t u = fun_ext (λ n. or_assoc (s n) (t n) (u n))
 
 union_empty : (s : Bytes) → union s empty ≡ s
-union_empty s = fun_ext (λ n. or_none (s n))
+union_empty s = fun_ext (λ n. or-false (s n))
 
 -- what is read, by its parts
 abbrev pub reads : Bool → Bytes → Option Bytes → Option Bytes

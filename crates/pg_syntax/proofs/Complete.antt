@@ -19,7 +19,7 @@ use Rattle.pg_grammar.specs.Grammar.{Seq, Body, Spells}
 use Rattle.pg_syntax.specs.Machine.{Level, fresh, cat, last, whole, State, start, with_item, with_anchor, Token, Part}
 use Rattle.pg_syntax.specs.Machine.{Anchor, Repeat, Open, Close, Bar, add, opened, popped, barred, grouped, after, ends}
 use Rattle.pg_syntax.specs.Machine.{repeat_token, basic_escape, extended_escape, basic_token, extended_token, token}
-use Rattle.pg_syntax.specs.Machine.{next, Completes, done, step}
+use Rattle.pg_syntax.proofs.Reading.{next, Completes, done, step}
 use Rattle.pg_grammar.specs.declared.syntax.Syntax.{Syntax}
 use Rattle.pg_grammar.specs.declared.syntax.Syntax.TheVariants.{Basic, Extended}
 

@@ -5,6 +5,7 @@ pub mod BracketSteps
 pub mod BracketRuns
 pub mod BracketWholes
 pub mod IntervalLemmas
+pub mod Reading
 pub mod Complete
 pub mod Sound
 pub mod Agreement

@@ -11,14 +11,16 @@ use Rattle.pg_grammar.specs.Grammar.{Body, is_escaped, unbrace}
 use Rattle.pg_grammar.specs.Places.{closings, LeavesOpen, LeavesEmpty}
 use Rattle.pg_syntax.specs.Machine.{Level, cat, alt, last, whole, State, start, with_item, Token, Part, Anchor, Repeat}
 use Rattle.pg_syntax.specs.Machine.{Open, Close, Bar, add, popped, grouped, after, Found, ends, set_token, repeat_token}
-use Rattle.pg_syntax.specs.Machine.{basic_escape, extended_escape, basic_token, extended_token, token, next, Completes}
-use Rattle.pg_syntax.specs.Machine.{done, step}
+use Rattle.pg_syntax.specs.Machine.{basic_escape, extended_escape, basic_token, extended_token, token}
+use Rattle.pg_syntax.proofs.Reading.{next, Completes, done, step}
 use Rattle.pg_grammar.specs.declared.syntax.Syntax.{Syntax}
 use Rattle.pg_grammar.specs.declared.syntax.Syntax.TheVariants.{Basic, Extended}
 use Rattle.pg_syntax.proofs.BracketLemmas.{bracket_again, bracket_takes}
 use Rattle.pg_syntax.proofs.IntervalLemmas.{bounds_again, bounds_take}
 use Rattle.pg_syntax.proofs.Complete.{goes, complete, close_token}
 use Rattle.pg_syntax.proofs.Agreement.{stepped, expressed}
+use Rattle.std.proofs.Math.Bool.{and-false}
+use Rattle.pg_syntax.proofs.Sound.{grouped_not, after_rest}
 
 -- Read from its start, the text leads to the state, and this rest is left.
 pub data Leads (syntax : Syntax) (fold : Bool) (text : List ℕ) : State → List ℕ → Type 0 where
@@ -142,14 +144,9 @@ extended_grows fold s b more t =
     (layer more (eqb b 94) _ _ _ _ (leaf more (Anchor Begin) t)
     (layer more (eqb b 36) _ _ _ _ (leaf more (Part End) t) (leaf more (Part (Set (folded fold (one b)))) t))))))))))))
 
--- a byte that is no part of what ends a body stands behind
-and_none : (x : Bool) → (x && false) ≡ false
-and_none true = refl
-and_none false = refl
-
 ends_grow : (m t : List ℕ) → t ≢ [] → ends (t ++ 97 ∷ m) ≡ ends t
 ends_grow m [] n = absurd (n refl)
-ends_grow m (a ∷ []) n = and_none (eqb a 92)
+ends_grow m (a ∷ []) n = and-false (eqb a 92)
 ends_grow m (a ∷ b ∷ t) n = refl
 
 -- a `$` with a byte behind it, and at the end
@@ -174,10 +171,6 @@ found_rest (Some x) = x.1
 abbrev state_or : State → Option (State × List ℕ) → State
 state_or s None = s
 state_or s (Some x) = x.0
-
-abbrev left_or : List ℕ → Option (State × List ℕ) → List ℕ
-left_or t None = t
-left_or t (Some x) = x.1
 
 -- The token at the front is the same with more behind it, or was a `$` at the end and is an ordinary byte now.
 token_more : (syntax : Syntax) (fold : Bool) (s : State) (b : ℕ) (u m : List ℕ) (k : Token) (rest : List ℕ)
@@ -229,7 +222,7 @@ next_more syntax fold s s' b u m rest e = by_token (token syntax fold s (b ∷ u
     by_state k r t None f g = cc
     by_state k r t (Some s1) f g =
         let same : s1 ≡ s' = ap (state_or s') g in
-        let left : r ≡ rest = ap (left_or rest) g in
+        let left : r ≡ rest = ap (after_rest rest) g in
         elim (token_more syntax fold s b u m k r t) [
           | inl h ↦ inl (rw (h, f) (ap (λ x. Some (x, r ++ 97 ∷ m)) same ∙ ap (λ x. Some (s', x ++ 97 ∷ m)) left))
           | inr h ↦ inr (
@@ -342,10 +335,6 @@ module _ (syntax : Syntax) (fold : Bool) where
   some_groups [] g = absurd (false≢true g)
   some_groups (l ∷ outer) g = omega arith
 
-  no_groups : (outer : List Level) → grouped outer ≡ false → length outer ≡ 0
-  no_groups [] g = refl
-  no_groups (l ∷ outer) g = absurd (false≢true (sym g))
-
   pub leaves_open : (text : List ℕ) (s : State) → grouped s.outer ≡ true → Leads syntax fold text s []
       → LeavesOpen syntax text
   leaves_open text s g leads =
@@ -366,4 +355,4 @@ module _ (syntax : Syntax) (fold : Bool) where
   pub leaves_empty : (text : List ℕ) (s : State) → grouped s.outer ≡ false → Leads syntax fold text s []
       → LeavesEmpty syntax text
   leaves_empty text s g leads =
-      let f = filled text s 0 (no_groups s.outer g) leads in record { fold = fold; pattern = f.0; filled = f.1 }
+      let f = filled text s 0 (grouped_not s.outer g) leads in record { fold = fold; pattern = f.0; filled = f.1 }

@@ -16,7 +16,7 @@ use Rattle.pg_grammar.specs.Grammar.{Seq, Body, Spells}
 use Rattle.pg_syntax.specs.Machine.{Level, cat, alt, last, State, with_item, Token, Part, Anchor, Repeat, Open, Close}
 use Rattle.pg_syntax.specs.Machine.{Bar, repeated, opened, popped, barred, grouped, after, Found, ends, set_token}
 use Rattle.pg_syntax.specs.Machine.{repeat_token, basic_escape, extended_escape, basic_token, extended_token, token}
-use Rattle.pg_syntax.specs.Machine.{next, Completes, done, step}
+use Rattle.pg_syntax.proofs.Reading.{next, Completes, done, step}
 use Rattle.pg_grammar.specs.declared.syntax.Syntax.{Syntax}
 use Rattle.pg_grammar.specs.declared.syntax.Syntax.TheVariants.{Basic, Extended}
 use Rattle.pg_syntax.proofs.Complete.{basic≢extended, ends_byte, nonempty, append_empty}
@@ -435,7 +435,7 @@ position Basic fold d a q i text e r g = (
     not_over : e ≡ true → ⊥
     not_over z = cons_not_nil 0 [] ((g (0 ∷ []) (cons_not_nil 0 [])).1 z)
 
-abbrev after_rest : List ℕ → Option (State × List ℕ) → List ℕ
+abbrev pub after_rest : List ℕ → Option (State × List ℕ) → List ℕ
 after_rest u None = u
 after_rest u (Some x) = x.1
 

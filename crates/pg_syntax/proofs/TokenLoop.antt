@@ -7,8 +7,8 @@ use Rattle.pg_grammar.specs.Grammar as G
 use Rattle.pg_grammar.specs.Grammar.{Spells, Expression, Body, Mark, opening, closing, brace, unbrace}
 use Rattle.pg_syntax.specs.Machine as M
 use Rattle.pg_syntax.proofs.Proper.{spelled_proper}
-use Rattle.pg_syntax.specs.Machine.{State, Token, Level, start, whole, grouped, token, after, next, Completes, done}
-use Rattle.pg_syntax.specs.Machine.{step}
+use Rattle.pg_syntax.specs.Machine.{State, Token, Level, start, whole, grouped, token, after}
+use Rattle.pg_syntax.proofs.Reading.{next, Completes, done, step}
 use Rattle.pg_syntax.proofs.Onward.{Leads, onward, open_end, leaves_open, leaves_empty}
 use Rattle.pg_grammar.specs.Places.{Place, PlaceIn}
 use Rattle.pg_grammar.specs.Results.{IsSpelled, IsRefused, IsFault}

@@ -10,6 +10,7 @@ use Rattle.pg_walk.specs.Paths.{ends_with_slash, beginnings, above}
 use Rattle.pg_walk.specs.Circles.{are_one}
 use Rattle.pg_walk.specs.Scopes.{Scope, sights}
 use Rattle.pg_walk.specs.declared.tree.Identity.{Identity}
+use Rattle.std.proofs.Math.Bool.{and-false}
 
 -- one of the longest so many beginnings that end with a slash, among those of at most so many bytes, passes the test
 abbrev pub some_above : (Text → Bool) → Text → ℕ → ℕ → Bool
@@ -82,17 +83,13 @@ no_own f (d ∷ ds) = ap (λ b. b || list_any (λ directory. are_one (f director
     none_one None = refl
     none_one (Some x) = refl
 
-none_in : (b : Bool) → (b && false) ≡ false
-none_in true = refl
-none_in false = refl
-
 -- what can't be told lies in nothing
 pub untold_free : (s : Scope) (a : Answers) (depth : ℕ) (path : Text) → a.identity path ≡ None
     → (sights s a).circle depth path ≡ false
 untold_free s a depth path e =
     ap (λ o. s.follows && list_any (λ directory. are_one (a.identity directory) o) (above depth path)) e
-    ∙ (ap (λ b. s.follows && b) (no_own a.identity (above depth path)) ∙ none_in s.follows)
+    ∙ (ap (λ b. s.follows && b) (no_own a.identity (above depth path)) ∙ and-false s.follows)
 
 -- an operand lies in nothing
 pub operand_free : (s : Scope) (a : Answers) (path : Text) → (sights s a).circle 0 path ≡ false
-operand_free s a path = none_in s.follows
+operand_free s a path = and-false s.follows

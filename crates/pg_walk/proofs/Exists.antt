@@ -14,7 +14,8 @@ use Rattle.pg_walk.specs.Scopes.{Sight, Sights, Is, IsLeftOut, IsUntold}
 use Rattle.pg_walk.specs.Items.{Found, File, Fault}
 use Rattle.pg_walk.specs.Places.{Names, child, is_standard_input}
 use Rattle.pg_walk.specs.Walks.{place_cmp, directory_gives, Ascending, ItemsOf, FilesOf}
-use Rattle.pg_walk.specs.Descent.{EntryGives, InsideGives, OperandGives, Adds}
+use Rattle.pg_walk.specs.Descent.{EntryGives, InsideGives, OperandGives}
+use Rattle.pg_walk.proofs.Joins.{Adds}
 use Rattle.pg_walk.specs.Left.{Spot, Operand, Entry, spot_gives, AreLeft, shown}
 use Rattle.pg_walk.specs.declared.tree.FileKind.TheVariants.{Regular, Directory, Link, Other}
 use Rattle.pg_base.specs.declared.cause.Cause.TheVariants.{CannotOpen, IsDirectory, CannotList, BadName, TooDeep}

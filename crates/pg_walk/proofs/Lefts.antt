@@ -11,7 +11,8 @@ use Rattle.pg_walk.specs.Scopes.{Scope, Sights, sights}
 use Rattle.pg_walk.specs.Items.{Found}
 use Rattle.pg_walk.specs.Places.{Names, child}
 use Rattle.pg_walk.specs.Walks.{place_cmp, Ascending, ItemsOf, FilesOf}
-use Rattle.pg_walk.specs.Descent.{InsideGives, Adds}
+use Rattle.pg_walk.specs.Descent.{InsideGives}
+use Rattle.pg_walk.proofs.Joins.{Adds}
 use Rattle.pg_walk.specs.Within.{FollowOperands}
 use Rattle.pg_walk.specs.Left.{Spot, Operand, Entry, AreLeft, MayBeLeft, MayGive, shown, Unfolds, UnfoldsWithin}
 use Rattle.pg_walk.specs.Left.{spot_of, spots_in, spot_gives, BeginsWalk, HasGiven, IsWalk}

@@ -263,24 +263,6 @@ module _ (w : Text) (us : List Use) (before : Bool) (on : bytes_eq w (codes "--i
       go (Some p) is e = long_word_says p is e
       go None is e = short (short_of w) e
 
-pub on_says : (w : Text) (us : List Use) (before : Bool) → bytes_eq w (codes "--ignore-case") ≡ true
-    → word table w ≡ Some us → case_after us before ≡ true
-on_says w us before is e =
-    let same : w ≡ codes "--ignore-case" = (bytes_eq-Decides w (codes "--ignore-case")).0 is in
-    go us (ap (word table) (sym same) ∙ e)
-  where
-    go : (us : List Use) → word table (codes "--ignore-case") ≡ Some us → case_after us before ≡ true
-    go us e = ap (λ (o : Uses). case_after (unwrap_or o us) before) (sym e)
-
-pub off_says : (w : Text) (us : List Use) (before : Bool) → bytes_eq w (codes "--no-ignore-case") ≡ true
-    → word table w ≡ Some us → case_after us before ≡ false
-off_says w us before is e =
-    let same : w ≡ codes "--no-ignore-case" = (bytes_eq-Decides w (codes "--no-ignore-case")).0 is in
-    go us (ap (word table) (sym same) ∙ e)
-  where
-    go : (us : List Use) → word table (codes "--no-ignore-case") ≡ Some us → case_after us before ≡ false
-    go us e = ap (λ (o : Uses). case_after (unwrap_or o us) before) (sym e)
-
 -- ---- what words say
 
 operands_silent : (ws : List Text) (before : Bool) → case_after (map Operand ws) before ≡ before

@@ -20,6 +20,7 @@ use Rattle.pg_words.specs.Joined.{joined_word, letter, letters, letters_wait, lo
 use Rattle.pg_words.specs.Joined.{long_word}
 use Rattle.pg_words.specs.Joined.{short_waits, short_word, takes_value, ValueOf, waits, word}
 use Rattle.pg_words.proofs.Waiting.{word_waits}
+use Rattle.std.proofs.lemmas.Bool.{or_parts}
 
 -- a word's uses, where this value follows it
 abbrev pub closed : Read → Text → Uses
@@ -100,15 +101,11 @@ module _ (os : List Opt) (v : Text) where
 
 -- ---- long names
 
-either_false : (a b : Bool) → (a || b) ≡ false → (a ≡ false) × (b ≡ false)
-either_false true b e = cc
-either_false false b e = (refl, e)
-
 pub lacks : (t : Text) → has_byte 61 t ≡ false → Lacks 61 t
 lacks [] none i lt = absurd (omega arith)
 lacks (x ∷ t) none zero lt = λ e. true≢false (sym (ap (λ (n : ℕ). n == 61) e)
-    ∙ (either_false (x == 61) (has_byte 61 t) none).0)
-lacks (x ∷ t) none (suc i) lt = lacks t (either_false (x == 61) (has_byte 61 t) none).1 i (omega arith)
+    ∙ (or_parts (x == 61) (has_byte 61 t) none).0)
+lacks (x ∷ t) none (suc i) lt = lacks t (or_parts (x == 61) (has_byte 61 t) none).1 i (omega arith)
 
 -- a name without `=`, and a value behind `=`
 name_more : (t v : Text) → has_byte 61 t ≡ false → name_and_value (t ++ 61 ∷ v) ≡ ((name_and_value t).0, Some v)
@@ -312,32 +309,6 @@ module _ (os : List Opt) where
   word_may w b is = subst (λ x. MayWait x (read_word os w)) is (long_or_short_may (long_of w) w)
 
   -- ---- all words
-
-  not_waiting : (r : Read) (v : Text) (next : Option Opt → Uses) → MayWait false r → followed r next
-      ≡ then_uses (closed r v) (next None)
-  not_waiting None v next h = refl
-  not_waiting (Some p) v next h = go p.0 p.1 h
-    where
-      go : (us : List Use) (w : Option Opt) → is_some w ≡ false → followed (Some (us, w)) next
-          ≡ then_uses (closed (Some (us, w)) v) (next None)
-      go us None e = refl
-      go us (Some o) e = cc
-
-  more_uses : (us : List Use) (U V : Uses) → then_uses (Some us) (then_uses U V) ≡ then_uses (then_uses (Some us) U) V
-  more_uses us None V = refl
-  more_uses us (Some vs) None = refl
-  more_uses us (Some vs) (Some ws) = ap (λ (l : List Use). Some l) (sym (append_assoc us vs ws))
-
-  waiting_uses : (r : Read) (v : Text) (V : Uses) (next : Option Opt → Uses) → MayWait true r
-      → ((o : Opt) → next (Some o) ≡ then_uses (valued o v) V)
-      → followed r next ≡ then_uses (closed r v) V
-  waiting_uses None v V next h is = refl
-  waiting_uses (Some p) v V next h is = go p.0 p.1 h
-    where
-      go : (us : List Use) (w : Option Opt) → is_some w ≡ true → followed (Some (us, w)) next
-          ≡ then_uses (closed (Some (us, w)) v) V
-      go us None e = cc
-      go us (Some o) e = ap (then_uses (Some us)) (is o) ∙ more_uses us (valued o v) V
 
   last_refused : (r : Read) → MayWait true r → followed r (uses_from os []) ≡ None
   unfolding uses_from

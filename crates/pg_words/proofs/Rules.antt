@@ -6,6 +6,7 @@ use Rattle.clap.specs.Simple.{Shape, new_shape, filled, filled_from, with_index,
 use Rattle.clap.specs.Faults.{is_simple_and_free}
 use Rattle.pg_words.specs.App.{our_app, option_rule, operands_rule, app_with}
 use Rattle.pg_words.specs.Line.{Value, Nothing, AnyText, Number, Opt, by_letter, by_name, has_value, table}
+use Rattle.std.proofs.Math.Bool.{or-false}
 
 abbrev pub frule : Opt → Rule
 frule o = filled (option_rule o)
@@ -36,10 +37,6 @@ built_is os = ap shape_with (filled_is os)
 pub ours_is_simple : is_simple_and_free our_app ≡ true
 ours_is_simple = refl
 
-or_false : (b : Bool) → (b || false) ≡ b
-or_false true = refl
-or_false false = refl
-
 pub find_rule : (p : Rule → Bool) (q : Opt → Bool) → ((o : Opt) → p (frule o) ≡ q o) → p oprule ≡ false
     → (os : List Opt) → find p (rules os) ≡ option_map frule (find q os)
 find_rule p q same none [] = ap (λ (b : Bool). cond b (Some oprule) None) none
@@ -52,7 +49,7 @@ find_rule p q same none (o ∷ os) =
     go later false = later
 
 pub by_short : (os : List Opt) (x : ℕ) → arg_by_short (rules os) x ≡ option_map frule (by_letter os x)
-by_short os x = find_rule _ _ (λ o. or_false _) refl os
+by_short os x = find_rule _ _ (λ o. or-false _) refl os
 
 pub by_long : (os : List Opt) (name : Text) → arg_by_long (rules os) name ≡ option_map frule (by_name os name)
 by_long os name = find_rule _ _ (λ o. refl) refl os
@@ -64,11 +61,3 @@ by_index (o ∷ os) = by_index os
 
 pub ours_by_id : arg_by_id (rules table) (codes "operands") ≡ Some oprule
 ours_by_id = refl
-
-takes_if : (o : Opt) (v : Value) → takes_values (frule (record o { value = v })) ≡ has_value (record o { value = v })
-takes_if o Nothing = refl
-takes_if o AnyText = refl
-takes_if o (Number low high) = refl
-
-pub takes_value : (o : Opt) → takes_values (frule o) ≡ has_value o
-takes_value o = takes_if o o.value

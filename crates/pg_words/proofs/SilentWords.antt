@@ -71,19 +71,6 @@ module _ {A : Type 0} {after : List Use → A → A} {by : Text → Text → A �
         go (Some letter) true e found = refl
         go (Some letter) false e found = cc
 
-    other_silent : (name : Text) (others : List Text) → list_all is_silent others ≡ true
-        → list_any (λ other. bytes_eq other name) others ≡ true → is_silent name ≡ true
-    other_silent name [] all any = cc
-    other_silent name (other ∷ others) all any =
-        let parts = both (is_silent other) (list_all is_silent others) all in
-        go (bytes_eq other name) refl parts.0 any (other_silent name others parts.1)
-      where
-        go : (e : Bool) → bytes_eq other name ≡ e → is_silent other ≡ true
-            → (e || list_any (λ x. bytes_eq x name) others) ≡ true
-            → (list_any (λ x. bytes_eq x name) others ≡ true → is_silent name ≡ true) → is_silent name ≡ true
-        go true is silent any later = ap is_silent (sym ((bytes_eq-Decides other name).0 is)) ∙ silent
-        go false is silent any later = later any
-
     -- an option with further names isn't heeded
     others_told : (l : Option ℕ) (others : List Text) (name : Text)
         → ((is_silent o.name && list_all is_silent others) || has_one_name l others) ≡ true

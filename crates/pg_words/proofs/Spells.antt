@@ -102,32 +102,6 @@ own_word_low x e = go (is_ascii_digit x) refl e
     go false is e = older_low x (newer_low x e)
 
 module _ (before : List Text) (w digits rest : Text) (x : ℕ) where
-  pub digit_step : is_ascii_digit x ≡ true
-      → before ++ letter_words table w (digits ++ x ∷ []) rest ≡ before ++ letter_words table w digits (x ∷ rest)
-  digit_step digit = rw digit refl
-
-  pub flag_step : (after : List Text) → is_ascii_digit x ≡ false
-      → (is_ascii_digit x || is_flag (by_letter table (newer_letter x))) ≡ true
-      → after ≡ before ++ number_words digits ++ flag_words (newer_letter x)
-      → after ++ letter_words table w [] rest ≡ before ++ letter_words table w digits (x ∷ rest)
-  flag_step after digit own is =
-      let flag : is_flag (by_letter table (newer_letter x)) ≡ true =
-      ap (λ (b : Bool). b || is_flag (by_letter table (newer_letter x))) (sym digit) ∙ own in
-      let own_words : List Text = flag_words (newer_letter x) in
-      rw (digit, flag, is)
-      (ap (λ (l : List Text). l ++ letter_words table w [] rest) (append_assoc before (number_words digits) own_words)
-      ∙ append_assoc before (number_words digits ++ own_words) (letter_words table w [] rest))
-
-  pub rest_step : (after : List Text) → (is_ascii_digit x || is_flag (by_letter table (newer_letter x))) ≡ false
-      → after ≡ before ++ number_words digits ++ rest_word w (x ∷ rest) ∷ []
-      → after ≡ before ++ letter_words table w digits (x ∷ rest)
-  rest_step after other is = go (is_ascii_digit x) refl other
-    where
-      go : (b : Bool) → is_ascii_digit x ≡ b → (b || is_flag (by_letter table (newer_letter x))) ≡ false
-          → after ≡ before ++ letter_words table w digits (x ∷ rest)
-      go true digit other = cc
-      go false digit other =
-          rw (digit, other) (is ∙ append_assoc before (number_words digits) (rest_word w (x ∷ rest) ∷ []))
 
 pub letter_kept : (letters w : Text) (at d : ℕ) (old new first : List Text) (digits more : Text)
     → at < length letters
@@ -141,18 +115,6 @@ letter_kept letters w at d old new first digits more within step before =
     step w (drop (at + 1) letters) ∙ (ap (λ (t : Text). old ++ letter_words table w digits t) (sym here) ∙ before)
 
 -- ---- the letters of a word
-
-pub short_found : (w : Text) → 2 ≤ length w → slice_index w 0 ≡ 45 → (slice_index w 1 == 45) ≡ false
-    → (letters : Text) → w ≡ 45 ∷ letters → short_of w ≡ Some letters
-short_found [] long first second letters is = cc
-short_found (d ∷ []) long first second letters is = absurd (omega (arith, long))
-short_found (d ∷ x ∷ t) long first second letters is =
-    let tail : x ∷ t ≡ letters = ap (λ (l : Text). drop_one l) is in
-    rw (first, second) (ap (λ (l : Text). Some l) tail)
-  where
-    drop_one : Text → Text
-    drop_one [] = []
-    drop_one (y ∷ ys) = ys
 
 -- at the end no word is left
 pub all_spelled : (words : List (String Global)) (i : ℕ) (parts all : List Text) (next : Place) → length words ≤ i

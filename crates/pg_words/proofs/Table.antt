@@ -22,6 +22,7 @@ use Rattle.pg_words.specs.declared.command.Behind.{Behind}
 use Rattle.pg_words.specs.declared.command.Behind.TheVariants as behind
 use Rattle.pg_words.specs.declared.command.Names.{Names}
 use Rattle.pg_words.specs.declared.command.Names.TheVariants as names
+use Rattle.std.proofs.Math.Bool.{and-false}
 
 abbrev row : Names → Bor Text → Behind → OptionRow
 row n name b = record { 0 = n; 1 = name; 2 = b }
@@ -44,41 +45,6 @@ any_map : (p : Text → Bool) (others : List (Bor Text))
 any_map p [] = refl
 any_map p (other ∷ others) = ap (λ (b : Bool). p other.now || b) (any_map p others)
 
-letter_found_by : (n : Names) (name : Bor Text) (b : Behind) (rows : List OptionRow) (x : ℕ)
-    → has_letter (row n name b) x ≡ true
-    → has_value_behind b ≡ takes_value (by_letter (opts_of (row n name b ∷ rows)) x)
-letter_found_by (names.Letter letter others) name b rows x e =
-    rw e (same_value (Some letter) name.now (map (λ other. other.now) others.now) b)
-letter_found_by (names.Long others) name b rows x e = cc
-letter_found_by names.Place name b rows x e = cc
-
-letter_passed_by : (n : Names) (name : Bor Text) (b : Behind) (rows : List OptionRow) (x : ℕ)
-    → has_letter (row n name b) x ≡ false
-    → by_letter (opts_of (row n name b ∷ rows)) x ≡ by_letter (opts_of rows) x
-letter_passed_by (names.Letter letter others) name b rows x e = rw e refl
-letter_passed_by (names.Long others) name b rows x e = refl
-letter_passed_by names.Place name b rows x e = refl
-
-pub letter_found : (r : OptionRow) (rows : List OptionRow) (x : ℕ) → has_letter r x ≡ true
-    → has_value_behind r.2 ≡ takes_value (by_letter (opts_of (r ∷ rows)) x)
-letter_found r rows x e = letter_found_by r.0 r.1 r.2 rows x e
-
-pub letter_passed : (r : OptionRow) (rows : List OptionRow) (x : ℕ) → has_letter r x ≡ false
-    → by_letter (opts_of (r ∷ rows)) x ≡ by_letter (opts_of rows) x
-letter_passed r rows x e = letter_passed_by r.0 r.1 r.2 rows x e
-
-flag_found_by : (n : Names) (name : Bor Text) (b : Behind) (rows : List OptionRow) (x : ℕ)
-    → has_letter (row n name b) x ≡ true
-    → not (has_value_behind b) ≡ is_flag (by_letter (opts_of (row n name b ∷ rows)) x)
-flag_found_by (names.Letter letter others) name b rows x e =
-    rw e (ap not (same_value (Some letter) name.now (map (λ other. other.now) others.now) b))
-flag_found_by (names.Long others) name b rows x e = cc
-flag_found_by names.Place name b rows x e = cc
-
-pub flag_found : (r : OptionRow) (rows : List OptionRow) (x : ℕ) → has_letter r x ≡ true
-    → not (has_value_behind r.2) ≡ is_flag (by_letter (opts_of (r ∷ rows)) x)
-flag_found r rows x e = flag_found_by r.0 r.1 r.2 rows x e
-
 name_found_by : (n : Names) (own : Bor Text) (b : Behind) (rows : List OptionRow) (name : Text)
     → has_name (row n own b) name ≡ true
     → has_value_behind b ≡ takes_value (by_name (opts_of (row n own b ∷ rows)) name)
@@ -89,10 +55,6 @@ name_found_by (names.Long others) own b rows name e =
     rw (any_map (λ (other : Text). bytes_eq other name) others.now, e)
     (same_value None own.now (map (λ other. other.now) others.now) b)
 name_found_by names.Place own b rows name e = cc
-
-and_false : (b : Bool) → (b && false) ≡ false
-and_false true = refl
-and_false false = refl
 
 name_passed_by : (n : Names) (own : Bor Text) (b : Behind) (rows : List OptionRow) (name : Text)
     → has_name (row n own b) name ≡ false
@@ -128,7 +90,7 @@ begun_by (names.Letter letter others) own b rows start e =
     rw (any_map (λ (other : Text). begins other start) others.now, e) refl
 begun_by (names.Long others) own b rows start e =
     rw (any_map (λ (other : Text). begins other start) others.now, e) refl
-begun_by names.Place own b rows start e = absurd (true≢false (sym e ∙ and_false _))
+begun_by names.Place own b rows start e = absurd (true≢false (sym e ∙ and-false _))
 
 not_begun_by : (n : Names) (own : Bor Text) (b : Behind) (rows : List OptionRow) (start : Text)
     → has_begun_name (row n own b) start ≡ false

@@ -28,6 +28,7 @@ use Rattle.pg_words.specs.Line.{is_mark, Value, Nothing, AnyText, Number, Opt, U
 use Rattle.pg_words.specs.Line.{by_name, has_value, fits, then_uses, valued}
 use Rattle.pg_words.specs.Joined.{takes_value, word, long_word, short_word, long, letters, asked, waits, complete}
 use Rattle.pg_words.specs.Joined.{long_waits, letter, letters_wait, long_or_short_waits, short_waits}
+use Rattle.std.proofs.Math.Bool.{or-false}
 
 no_repeat : (id : Text) (rows : List Row) → repeat_fault true id rows ≡ []
 no_repeat id rows = go (has_row id rows)
@@ -95,10 +96,6 @@ Bundles e None fault met R = has_fault fault ≡ true
 Bundles e (Some us) fault met R = (fault ≡ []) × (rows : List Row) × (p : Option Text) × (met ≡ (held_at rows p, e))
     × (rows_at rows p ≡ applied us R)
 
-abbrev pub ended : Text → Outcome → Outcome
-ended [] so_far = so_far
-ended (x ∷ rest) so_far = done
-
 -- ---- characters
 
 pub lt_or_le : (x : ℕ) → (x < 128) ⊎ (128 ≤ x)
@@ -108,32 +105,9 @@ lt_or_le x = go (nat_lt x 128) refl
     go true e = inl (ltb-true _ _ e)
     go false e = inr (ltb-false _ _ e)
 
-first_ascii : (x : ℕ) (rest : Text) → IsUtf8 (x ∷ rest) → x < 128 → slice_get (chars (x ∷ rest)) 0 ≡ Some x
-first_ascii x rest utf8 low = ap (λ (l : List ℕ). slice_get l 0)
-    (chars_past_char (x ∷ rest) rest x utf8 (ap (λ (l : List ℕ). l ++ rest) (sym (encode_ascii x low))))
-
-rest_ascii : (x : ℕ) (rest : Text) → x < 128 → drop (length (encode_utf8 x)) (x ∷ rest) ≡ rest
-rest_ascii x rest low = ap (λ (l : List ℕ). drop (length l) (x ∷ rest)) (encode_ascii x low)
-
 utf8_rest : (x : ℕ) (rest : Text) → IsUtf8 (x ∷ rest) → x < 128 → IsUtf8 rest
 utf8_rest x rest utf8 low = IsUtf8-drop (x ∷ rest) 1 utf8
     (IsCharBoundary-after_ascii (x ∷ rest) 0 utf8 (omega arith) low)
-
-first_high : (x : ℕ) (rest : Text) → IsUtf8 (x ∷ rest) → 128 ≤ x → (y : ℕ) × (128 ≤ y)
-    × (slice_get (chars (x ∷ rest)) 0 ≡ Some y)
-first_high x rest utf8 high = go utf8.0 (chars_from_encodes utf8.0 (x ∷ rest) utf8 utf8.1.1) utf8.1.1
-  where
-    go : (cs : List ℕ) → cs ≡ chars (x ∷ rest) → encode_utf8_all cs ≡ x ∷ rest → (y : ℕ) × (128 ≤ y)
-        × (slice_get (chars (x ∷ rest)) 0 ≡ Some y)
-    go [] e spell = cc
-    go (y ∷ cs) e spell = (y, high_first (lt_or_le y), ap (λ (l : List ℕ). slice_get l 0) (sym e))
-      where
-        high_first : (y < 128) ⊎ (128 ≤ y) → 128 ≤ y
-        high_first (inr h) = h
-        high_first (inl low) =
-            let same : y ≡ x = ap (λ (l : List ℕ). slice_index l 0)
-            (ap (λ (l : List ℕ). l ++ encode_utf8_all cs) (sym (encode_ascii y low)) ∙ spell) in
-            omega (arith, same)
 
 -- a fault in the words, or behind the last of them
 abbrev pub Fails : List Rule → Kinds → Walk → Type 0
@@ -152,10 +126,6 @@ abbrev pub Ends : List Rule → Uses → Kinds → Walk → List Row → Type 0
 Ends c None fault after R = Fails c fault after
 Ends c (Some us) fault after R = (fault ≡ []) × (rows : List Row) × (p : Option Text) × (b t : Bool)
     × (after ≡ at rows p b t) × (rows_at rows p ≡ applied us R)
-
-or_false : (b : Bool) → (b || false) ≡ b
-or_false true = refl
-or_false false = refl
 
 -- a first fault stays
 pub faults_first : (a b : Kinds) → has_fault a ≡ true → has_fault (or_else a b) ≡ true
@@ -252,7 +222,7 @@ module _ (os : List Opt) (c : List Rule) (id_is : arg_by_id c (codes "operands")
             trailing;
         stopped = None;
       })
-      (positional_at rows p w) (or_false t))
+      (positional_at rows p w) (or-false t))
 
   mark_turn : (rows : List Row) (p : Option Text) (b : Bool) (w : Text) → bytes_eq w (45 ∷ 45 ∷ []) ≡ true
       → turn_fault (shape_with c) [] (at rows p b false) w ≡ []
@@ -400,15 +370,6 @@ module _ (os : List Opt) (c : List Rule) (id_is : arg_by_id c (codes "operands")
   value_short o (Number low high) rest rows p later e =
       attached_bundles (record o { value = Number low high }) (attached_value rest) rows p refl e
       (λ t. value_use o (Number low high) t (rows_at rows p) refl)
-
-  found_short : (found : Option Opt) (rest : Text) (rows : List Row) (p : Option Text)
-      → (letters_wait os rest ≡ false → Rests rest) → letter_waits found rest (letters_wait os rest) ≡ false
-      → Bundles done (letter found rest (letters os rest))
-      (short_fault c true (option_map frule found) rest (held_at rows p) (flags_fault c true (length rest) rest 0))
-      (short_met c (option_map frule found) rest (held_at rows p) (bundle_met c (length rest) rest 0 done))
-      (rows_at rows p)
-  found_short None rest rows p later e = refl
-  found_short (Some o) rest rows p later e = value_short o o.value rest rows p later e
 
   letters_come : (x : ℕ) (rest : Text) (so_far : Outcome) (rows : List Row) (p : Option Text) → IsUtf8 (x ∷ rest)
       → (x < 128 → letters_wait os rest ≡ false → Rests rest) → letters_wait os (x ∷ rest) ≡ false
@@ -595,15 +556,6 @@ module _ (os : List Opt) (c : List Rule) (id_is : arg_by_id c (codes "operands")
       attached_in_vain (record o { value = AnyText }) (attached_value rest) rows p refl id e
   short_in_vain o (Number low high) rest rows p later id e =
       attached_in_vain (record o { value = Number low high }) (attached_value rest) rows p refl id e
-
-  letter_in_vain : (found : Option Opt) (rest : Text) (rows : List Row) (p : Option Text)
-      → (letters_wait os rest ≡ true → VainRests rest) → HasId c found → letter_waits found rest (letters_wait os rest)
-      ≡ true
-      → Vain (short_fault c true (option_map frule found) rest (held_at rows p)
-      (flags_fault c true (length rest) rest 0))
-      (short_met c (option_map frule found) rest (held_at rows p) (bundle_met c (length rest) rest 0 done))
-  letter_in_vain None rest rows p later id e = inl refl
-  letter_in_vain (Some o) rest rows p later id e = short_in_vain o o.value rest rows p later id e
 
   letters_in_vain : (x : ℕ) (rest : Text) (so_far : Outcome) (rows : List Row) (p : Option Text) → IsUtf8 (x ∷ rest)
       → (x < 128 → letters_wait os rest ≡ true → VainRests rest) → letters_wait os (x ∷ rest) ≡ true

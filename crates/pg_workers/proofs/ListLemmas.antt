@@ -4,6 +4,7 @@ use Rattle.std.proofs.Common.{replicate, take, sym, refl, ap, subst, arith}
 use Rattle.std.specs.Prelude.{slice_get, Some}
 use Rattle.std.proofs.lemmas.List.Elements.{All-append}
 use Rattle.std.proofs.Math.Seq.{take-append_seam}
+use Rattle.pg_board.proofs.CountLemmas.{all_front, all_last}
 
 pub get_at : {A : Type 0} (xs : List A) (i : ℕ) (a : A) → i < length xs → get_or xs i a ≡ a → slice_get xs i ≡ Some a
 get_at [] i a h e = absurd (omega arith)
@@ -17,15 +18,6 @@ module _ {A : Type 0} (P : A → Type 0) where
 
   pub all_more : (xs : List A) (x : A) → All P xs → P x → All P (xs ++ x ∷ [])
   all_more xs x h p = All-append P xs (x ∷ []) h (all_one x p)
-
-  pub all_last : (xs : List A) (x : A) → All P (xs ++ x ∷ []) → P x
-  all_last [] x h = h 0 x (omega arith)
-  all_last (y ∷ ys) x h = all_last ys x (λ k d l. h (suc k) d (omega arith))
-
-  pub all_front : (xs : List A) (x : A) → All P (xs ++ x ∷ []) → (k : ℕ) (d : A) → k < length xs → P (get_or xs k d)
-  all_front [] x h k d l = absurd (omega arith)
-  all_front (y ∷ ys) x h zero d l = h zero d (omega arith)
-  all_front (y ∷ ys) x h (suc k) d l = all_front ys x (λ k d l. h (suc k) d (omega arith)) k d (omega arith)
 
   pub all_taken : (n : ℕ) (xs ys : List A) → n ≡ length xs → All P xs → All P (take n (xs ++ ys))
   all_taken n xs ys e h =
@@ -46,9 +38,6 @@ module _ {A : Type 0} (P : A → Type 0) where
   pub any_last : (xs : List A) (x : A) → P x → Any P (xs ++ x ∷ [])
   any_last [] x p = (0, x, (omega arith), refl, p)
   any_last (y ∷ ys) x p = let r = any_last ys x p in (suc r.0, r.1, (let l = r.2 in omega arith), r.3, r.4)
-
-  pub any_pushed : (xs ys : List A) (x : A) → ys ≡ xs ++ x ∷ [] → P x → Any P ys
-  any_pushed xs ys x e p = subst (λ (l : List A). Any P l) (sym e) (any_last xs x p)
 
   pub any_first : (xs : List A) (x : A) → 0 < length xs → P x → Any P (set xs 0 x)
   any_first [] x l p = absurd (omega arith)

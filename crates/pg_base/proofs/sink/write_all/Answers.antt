@@ -3,7 +3,7 @@ use Rattle.std.proofs.Common.{length-append, length-drop}
 use Rattle.std.proofs.lemmas.List.{length-take, length-take-le, take_all}
 use Rattle.pg_base.specs.Sink.{Stream, WritesAll, WritesPart}
 use Rattle.pg_base.proofs.SinkLemmas.{on_err, takes_part, takes_more}
-use Rattle.pg_base.proofs.WriteLemmas.{wrote_none, writes_part}
+use Rattle.pg_base.proofs.WriteLemmas.{wrote_none, writes_part, rises}
 use Rattle.pg_base.proofs.sink.write_all.Goals as goal
 
 -- what isn't taken yet of a text
@@ -33,9 +33,6 @@ still_below at count n none below = omega arith
 
 less_left : (at count n : ℕ) → count ≢ 0 → at < n → n - (at + count) < n - at
 less_left at count n some below = omega arith
-
-rises : (before middle after : ℕ) → middle ≡ before → middle < after → before < after
-rises before middle after e h = omega arith
 
 -- the first bytes of the text were taken when a write failed
 stopped_at : (text : List ℕ) (start middle after : Stream) (at n : ℕ) → WritesAll (take at text) start middle

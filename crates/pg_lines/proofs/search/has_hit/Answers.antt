@@ -5,7 +5,7 @@ use Rattle.pg_match.specs.Machines.{IsMachineOf}
 use Rattle.pg_pattern.specs.Tests.{has_hit}
 use Rattle.pg_pattern.proofs.TestLemmas.{hits_decided}
 use Rattle.pg_selection.specs.Search.{Pattern, bounds_of}
-use Rattle.pg_selection.specs.Same.{same_trees}
+use Rattle.pg_selection.proofs.TreeLemmas.{same_trees}
 use Rattle.pg_lines.proofs.HeadLemmas.{piece_tells}
 use Rattle.pg_lines.proofs.HitLemmas.{hit_found, hit_missed}
 use Rattle.pg_lines.proofs.search.has_hit.Goals as goal

@@ -2,7 +2,8 @@ use Rattle.std.proofs.Common.{◌≡◌, List, ◌+◌, ◌-◌, ◌≤◌, leng
 use Rattle.pg_match.specs.Machines.{Fits}
 use Rattle.pg_blocks.specs.Lines.{AreShort}
 use Rattle.pg_selection.specs.Search.{Pattern, AreTreesOf, search_of, terminator_of}
-use Rattle.pg_lines.specs.Gathered.{IsGathered, parts_before}
+use Rattle.pg_lines.specs.Gathered.{IsGathered}
+use Rattle.pg_lines.proofs.PartLemmas.{parts_before}
 use Rattle.pg_lines.specs.Candidates.{AreNeedles}
 use Rattle.pg_lines.proofs.search.runs_of_hits.Given as goal
 

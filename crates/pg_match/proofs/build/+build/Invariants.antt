@@ -4,7 +4,8 @@ use Rattle.pg_pattern.specs.Trees.{pattern}
 use Rattle.pg_pattern.specs.declared.tree.Tree.{size-Tree}
 use Rattle.pg_match.specs.Sizes.{size_of}
 use Rattle.pg_match.specs.Tables.{AddedCopies, AddedOptional}
-use Rattle.pg_match.specs.Gaps.{HasGap, Completes}
+use Rattle.pg_match.specs.Gaps.{HasGap}
+use Rattle.pg_match.proofs.GapLemmas.{Completes}
 use Rattle.pg_match.proofs.build.+build.Given as goal
 
 abbrev pub invariant-add-loop-tree : goal.invariant-add-loop-tree

@@ -3,7 +3,7 @@ use Rattle.std.specs.Prelude.{slice_get, option_map}
 use Rattle.std.proofs.lemmas.List.{length-map}
 use Rattle.std.proofs.lemmas.Option.{slice_get_read, slice_get-map}
 use Rattle.pg_pattern.specs.Trees.{pattern}
-use Rattle.pg_match.specs.Tables.{HasFirst}
+use Rattle.pg_match.proofs.BuildLemmas.{HasFirst}
 use Rattle.pg_match.specs.Starts.{AreStarts}
 use Rattle.pg_match.specs.declared.state.State.{State}
 use Rattle.pg_match.proofs.BuildLemmas.{each_proper, room_for, building_one, building_more, built, runnable, any_some}

@@ -1,5 +1,5 @@
 use Rattle.std.proofs.Common.{◌-◌, length}
-use Rattle.pg_match.specs.Closures.{Reaching}
+use Rattle.pg_match.proofs.ClosureLemmas.{Reaching}
 use Rattle.pg_match.specs.Views.{members}
 use Rattle.pg_match.proofs.closure.reach.Given as goal
 

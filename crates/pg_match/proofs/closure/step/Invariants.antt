@@ -1,5 +1,5 @@
 use Rattle.pg_match.specs.StateSets.{CountedAnew}
-use Rattle.pg_match.specs.Closures.{Stepping}
+use Rattle.pg_match.proofs.ClosureLemmas.{Stepping}
 use Rattle.pg_match.specs.Views.{members}
 use Rattle.pg_match.proofs.closure.step.Given as goal
 

@@ -1,6 +1,6 @@
 use Rattle.std.proofs.Common.{◌-◌, length}
 use Rattle.pg_match.specs.Views.{members}
-use Rattle.pg_match.specs.Steps.{Closing}
+use Rattle.pg_match.proofs.StepLemmas.{Closing}
 use Rattle.pg_match.proofs.nfa_search.close.Given as goal
 
 abbrev pub invariant-loop-next : goal.invariant-loop-next

@@ -1,4 +1,4 @@
-use Rattle.pg_selection.specs.Same.{same_query}
+use Rattle.pg_selection.proofs.TreeLemmas.{same_query}
 use Rattle.pg_selection.proofs.laws.trees_are_one.Goals as goal
 
 pub returns : goal.returns

@@ -5,8 +5,9 @@ use Rattle.pg_board.specs.Board.{SeatView}
 use Rattle.pg_board.specs.Tray.{PutView}
 use Rattle.pg_workers.specs.declared.worker.Worker.{Worker}
 use Rattle.pg_workers.specs.Workers.{task_of, IsWork, HasFinished, AreWorks}
-use Rattle.pg_workers.proofs.ListLemmas.{all_more, all_last, all_front, any_last, any_front, any_split, any_none}
+use Rattle.pg_workers.proofs.ListLemmas.{all_more, any_last, any_front, any_split, any_none}
 use Rattle.pg_workers.proofs.GrowLemmas.{work_of, fits_of, works_more}
+use Rattle.pg_board.proofs.CountLemmas.{all_front, all_last}
 use Rattle.pg_workers.proofs.closing.part.Goals as goal
 
 pub loop-worker-preserved : goal.loop-worker-preserved

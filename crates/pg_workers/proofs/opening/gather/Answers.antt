@@ -4,8 +4,9 @@ use Rattle.pg_board.specs.Board.{SeatView, seat_view}
 use Rattle.pg_board.specs.Tray.{PutView, put_view}
 use Rattle.pg_workers.specs.declared.worker.Worker.{Worker}
 use Rattle.pg_workers.specs.Workers.{task_of, HasFinished}
-use Rattle.pg_workers.proofs.ListLemmas.{all_more, all_last, all_front, all_none}
+use Rattle.pg_workers.proofs.ListLemmas.{all_more, all_none}
 use Rattle.pg_workers.proofs.GrowLemmas.{finished_of, fresh_work}
+use Rattle.pg_board.proofs.CountLemmas.{all_front, all_last}
 use Rattle.pg_workers.proofs.opening.gather.Goals as goal
 
 pub loop-seat-preserved : goal.loop-seat-preserved

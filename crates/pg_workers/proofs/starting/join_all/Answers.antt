@@ -3,8 +3,9 @@ use Rattle.pg_workers.specs.declared.round.Round.{Round}
 use Rattle.pg_workers.specs.declared.worker.Worker.{Worker}
 use Rattle.pg_workers.specs.declared.starting.Started.{Started}
 use Rattle.pg_workers.specs.Workers.{task_of, HasWorked, IsStarted}
-use Rattle.pg_workers.proofs.ListLemmas.{all_front, all_last, all_more}
+use Rattle.pg_workers.proofs.ListLemmas.{all_more}
 use Rattle.pg_workers.proofs.starting.join_all.Goals.{in-Running, in-Ended}
+use Rattle.pg_board.proofs.CountLemmas.{all_front, all_last}
 use Rattle.pg_workers.proofs.starting.join_all.Goals as goal
 
 pub loop-started-preserved : goal.loop-started-preserved

@@ -2,7 +2,8 @@ use Rattle.std.proofs.Common.{List, All, refl, ◌∙◌, sym, subst, arith}
 use Rattle.pg_workers.specs.declared.worker.Worker.{Worker}
 use Rattle.pg_workers.specs.declared.starting.Started.{Started}
 use Rattle.pg_workers.specs.Workers.{task_of, HasFinished, IsStarted}
-use Rattle.pg_workers.proofs.ListLemmas.{all_more, all_last, all_front, all_none}
+use Rattle.pg_workers.proofs.ListLemmas.{all_more, all_none}
+use Rattle.pg_board.proofs.CountLemmas.{all_front, all_last}
 use Rattle.pg_workers.proofs.starting.start_all.Goals as goal
 
 pub start-requires-clause-finished : goal.start-requires-clause-finished

@@ -1,4 +1,4 @@
-use Rattle.pg_match.specs.Steps.{EndsSoFar}
+use Rattle.pg_match.proofs.StepLemmas.{EndsSoFar}
 use Rattle.pg_match.proofs.automaton.Automaton.ends_behind.Given as goal
 
 abbrev pub invariant-loop-k : goal.invariant-loop-k

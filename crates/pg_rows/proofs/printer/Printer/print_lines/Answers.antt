@@ -19,11 +19,8 @@ use Rattle.pg_rows.specs.Window.{held}
 use Rattle.pg_rows.proofs.PrintLemmas.{at_last}
 use Rattle.pg_rows.proofs.RunSteps.{failed_before}
 use Rattle.pg_rows.proofs.PrinterSteps.{behind_last, bytes_small, follows, lines_small, shown_lines}
-use Rattle.pg_base.proofs.WriteLemmas.{writes_as, writes_part}
+use Rattle.pg_base.proofs.WriteLemmas.{writes_as, writes_part, rises}
 use Rattle.pg_rows.proofs.printer.Printer.print_lines.Goals as goal
-
-rises : (before middle after : ℕ) → middle ≡ before → middle < after → before < after
-rises before middle after e h = omega arith
 
 -- what the runs leave of the block
 record IsLeft (end : ℕ) (bytes cut : List ℕ) (place : Place) (total : ℕ) : Type 0 where

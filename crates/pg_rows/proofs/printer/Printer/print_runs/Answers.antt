@@ -13,10 +13,8 @@ use Rattle.pg_rows.proofs.BlockLemmas.{no_run}
 use Rattle.pg_rows.proofs.RunSteps.{failed_before}
 use Rattle.pg_rows.proofs.PrinterSteps.{IsAmong, before_all, at_run, may_step, has_leading, leads_on, stops, comes_last}
 use Rattle.pg_rows.proofs.PrinterSteps.{has_found, lines_small, bytes_small, shown_lines}
+use Rattle.pg_base.proofs.WriteLemmas.{rises}
 use Rattle.pg_rows.proofs.printer.Printer.print_runs.Goals as goal
-
-rises : (before middle after : ℕ) → middle ≡ before → middle < after → before < after
-rises before middle after e h = omega arith
 
 pub loop-run-init : goal.loop-run-init
 loop-run-init g c = record {

@@ -4,7 +4,7 @@ use Rattle.pg_selection.specs.Searched.{lines_of}
 use Rattle.pg_rows.specs.declared.format.Format.{Format}
 use Rattle.pg_rows.specs.Cursor.{Cursor}
 use Rattle.pg_rows.specs.Remembered.{IsAtCursor}
-use Rattle.pg_rows.specs.Pieces.{HasFound}
+use Rattle.pg_rows.proofs.PieceLemmas.{HasFound}
 use Rattle.pg_rows.proofs.PrinterSteps.{IsAmong}
 use Rattle.pg_rows.proofs.printer.Printer.print_runs.Given as goal
 

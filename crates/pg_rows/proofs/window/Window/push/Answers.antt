@@ -5,8 +5,9 @@ use Rattle.circular_buffer.specs.Buffer.{keep_last}
 use Rattle.pg_blocks.specs.Blocks.{BlockData}
 use Rattle.pg_rows.specs.declared.window.Tail.{Tail}
 use Rattle.pg_rows.specs.Window.{lines_from, lines_in, held, IsTail}
-use Rattle.pg_rows.proofs.WindowLemmas.{few_lines, room_small, gives_last, gives_enough, tails_pushed, window_pushed}
+use Rattle.pg_rows.proofs.WindowLemmas.{room_small, gives_last, gives_enough, tails_pushed, window_pushed}
 use Rattle.pg_rows.proofs.WindowLemmas.{lines_pushed}
+use Rattle.pg_blocks.proofs.CountLemmas.{few_lines}
 use Rattle.pg_rows.proofs.window.Window.push.Goals as goal
 
 -- the lines of a text are fewer than 2^63

@@ -6,8 +6,8 @@ use Rattle.pg_base.proofs.WriteLemmas.{wrote_none, wrote_more}
 use Rattle.pg_plan.specs.History.{Past}
 use Rattle.pg_seq.specs.declared.assembler.Assembler.{Assembler}
 use Rattle.pg_seq.specs.Standing.{IsAfter, wrote}
-use Rattle.pg_plan.proofs.ListLemmas.{or_none}
 use Rattle.pg_seq.proofs.StandLemmas.{same_buffer, failed_stands}
+use Rattle.std.proofs.Math.Bool.{or-false}
 use Rattle.pg_seq.proofs.assembler.Assembler.drain.Goals as goal
 
 -- what was written so far, and one part more
@@ -67,7 +67,7 @@ returns-in-Ok-false g c =
             d.0,
             ap (λ s. s.taken) r.same ∙ d.1.taken,
             (h.failed ∙ c.if-self.false, r.all),
-            subst P (sym (or_none past.failed)) r.stands,
+            subst P (sym (or-false past.failed)) r.stands,
           );
       cause = λ e. absurd (cc);
       no_failure = none;

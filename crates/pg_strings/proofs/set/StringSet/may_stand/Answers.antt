@@ -1,11 +1,12 @@
 use Rattle.std.proofs.Common.{map, refl}
 use Rattle.pg_strings.specs.Keys.{items_of}
-use Rattle.pg_strings.proofs.ShortLemmas.{none_stands, both_clear}
+use Rattle.pg_strings.proofs.ShortLemmas.{none_stands}
+use Rattle.std.proofs.lemmas.Bool.{or_parts}
 use Rattle.pg_strings.proofs.set.StringSet.may_stand.Goals as goal
 
 pub returns : goal.returns
 returns g c = λ none.
     let strings = map items_of c.args.self.now.strings.items in
-    let clear = both_clear c.is_flagged.result c.stands_at.result none in
+    let clear = or_parts c.is_flagged.result c.stands_at.result none in
     none_stands c.args.self.now.width strings c.args.bytes.now c.args.place 0 c.args.self.now.long
     (c.stands_at.ensures strings c.requires.tables clear.1) refl (c.is_flagged.ensures clear.0)

@@ -2,7 +2,8 @@ use Rattle.std.proofs.Common.{◌≡◌, ◌+◌, ◌*◌, ◌%◌, ◌<◌, ap,
 use Rattle.std.specs.Prelude.{slice_index, slice_index_or}
 use Rattle.std.proofs.lemmas.List.{get_or-drop}
 use Rattle.pg_strings.proofs.KeyLemmas.{window_single, window_pair}
-use Rattle.pg_strings.proofs.ShortLemmas.{both_clear, longest_clear, read_of}
+use Rattle.pg_strings.proofs.ShortLemmas.{longest_clear, read_of}
+use Rattle.std.proofs.lemmas.Bool.{or_parts}
 use Rattle.pg_strings.proofs.short.ShortStrings.stands_at.Goals as goal
 
 pub returns : goal.returns
@@ -24,7 +25,7 @@ returns g c = λ strings tables none.
     let read = ap (λ n. n % 65536) c.window-window.ensures ∙ pair in
     let pair_is : window % 65536 ≡ slice_index bytes place + 256 * slice_index bytes (place + 1) =
     omega (arith, read, first, second) in
-    let clear = both_clear c.index.result.now c.index-2.result.now none in
+    let clear = or_parts c.index.result.now c.index-2.result.now none in
     longest_clear strings bytes place
     (read_of c.args.self.now.pairs.items (window % 65536) _ c.index-2.result.now _
     (omega (arith, pair_is, low, low', c.requires.pairs))

@@ -1,0 +1,16 @@
+-- A text that is read to its end, token by token.
+use Rattle.std.specs.Prelude.{ℕ, ◌≡◌, Bool, List, [], Option, Some, option_and_then}
+use Rattle.pg_pattern.specs.Patterns.{Pattern}
+use Rattle.pg_grammar.specs.declared.syntax.Syntax.{Syntax}
+use Rattle.pg_syntax.specs.Machine.{Level, State, whole, after, token}
+
+-- the state after the token at the front, and the rest of the text
+abbrev pub next : Syntax → Bool → State → List ℕ → Option (State × List ℕ)
+next syntax fold s t =
+    option_and_then (λ (k, rest). option_and_then (λ s'. Some (s', rest)) (after k s)) (token syntax fold s t)
+
+-- From this state on, the rest of the text makes the pattern.
+pub data Completes (syntax : Syntax) (fold : Bool) : State → List ℕ → Pattern → Type 0 where
+  done : {l : Level} {p : Pattern} → whole l ≡ Some p → Completes syntax fold (record { outer = []; level = l }) [] p
+  step : {s s' : State} {t rest : List ℕ} {p : Pattern} → next syntax fold s t ≡ Some (s', rest)
+      → Completes syntax fold s' rest p → Completes syntax fold s t p
