@@ -1,7 +1,8 @@
 #!/bin/sh
 # Makes a Debian package of what `make` has built: tools/make_deb.sh VERSION FOLDER
 # The package has the program, its man page, completions, documents and licences. It is the same, bit for bit, whenever
-# it is made of the same files: times are those of the newest line of the change log, and files lie in a fixed order.
+# it is made of the same files: times are those of the last commit, or without git of CHANGELOG.md, and files lie in a
+# fixed order.
 set -eu
 cd "$(dirname "$0")/.."
 version=${1:?usage: tools/make_deb.sh VERSION FOLDER}
@@ -54,7 +55,7 @@ Description: grep whose output is proved, by several threads
  Prints the lines of files that match a POSIX basic or extended expression or
  a fixed string, with the options of GNU grep that scripts use. Its output, its
  messages and its status are proved to be those that the definitions of grep
- give, for any number of threads, and no search takes more than linear time.
+ give, for any number of threads, and selecting lines takes linear time.
 TEXT
 (cd "$root" && find usr -type f | LC_ALL=C sort | xargs md5sum) >"$root/DEBIAN/md5sums"
 find "$root" -depth -exec touch -h -d "@$changed" {} +

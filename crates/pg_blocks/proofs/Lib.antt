@@ -13,3 +13,4 @@ pub mod BufferLemmas
 pub mod RoomLemmas
 pub mod FaultLemmas
 pub mod Examples
+pub mod WithinLemmas

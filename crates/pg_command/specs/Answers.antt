@@ -13,7 +13,7 @@ use Rattle.pg_run.specs.declared.setup.Setup.{Setup}
 use Rattle.pg_search.specs.Outcome.{SearchBreaksOff}
 use Rattle.pg_search.specs.declared.fault.SearchFault.{SearchFault}
 use Rattle.pg_request.specs.Asked.{Asked, glob_files, has_names, input_name, scope_for, spares_output, text_of_query}
-use Rattle.pg_command.specs.Causes.{fault_of_search}
+use Rattle.pg_command.specs.Faults.{fault_of_search}
 use Rattle.pg_request.specs.Operands.{IsDirectory}
 use Rattle.pg_request.specs.Reading.{HasRead, FailsToReadAll}
 use Rattle.pg_report.specs.Told.{TellsOfSearch}

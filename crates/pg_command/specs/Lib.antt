@@ -1,3 +1,3 @@
 pub mod Answers
-pub mod Causes
 pub mod Command
+pub mod Faults

@@ -1,6 +1,6 @@
 //! The faults of a search as those of the program.
 ghost use Rattle.std.specs.Prelude.{◌≡◌};
-ghost use Rattle.pg_command.specs.Causes.{fault_of_query, fault_of_run, fault_of_search};
+ghost use Rattle.pg_command.specs.Faults.{fault_of_query, fault_of_run, fault_of_search};
 
 use pg_lines::QueryFault;
 use pg_request::Fault;

@@ -61,7 +61,7 @@ pub fn command<
     }
 }
 
-/// Tells why the words aren't taken.
+/// Tells why the words aren't taken. The answer is always `Told`.
 fn refuse<E: Sink>(alloc: Global, fault: WordsFault, err: &mut E) -> Result<u8, Told>
     ensures fault { IsErr result }
     ensures told { TellsOfWords fault (E.stream err.old) (E.stream err.new) }
@@ -93,8 +93,8 @@ fn show<W: Sink, E: Sink>(alloc: Global, text: &str, out: &mut W, err: &mut E) -
 }
 
 /// Runs the command over the words of a call, or tells why they can't be had. Nothing was asked of `files` yet. The
-/// answer is the exit status of the program: that of the command, or 2 where there are no words or what
-/// standard output held back can't be sent on, which is part of success.
+/// answer is the exit status of the program: that of the command, or 2 where a fault was told, where there are no
+/// words, or where what standard output held back can't be sent on, which is part of success.
 pub fn run<
     't,
     R: Threads + Wait + Clock + Sync,

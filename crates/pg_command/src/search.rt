@@ -35,20 +35,20 @@ const MOST_HELPERS: u32 = 3;
 #[derive(Clone, Copy, Debug, PartialEq, Eq)]
 pub struct Told;
 
-/// Searches the files that a request names, which a walk over its operands in a tree gives and the
-/// store of `files` opens, each when its turn comes. What is asked for of them goes to `out`, in the
-/// request's format; rows call a file by its path, and standard input by its label or else `(standard input)`. Each
-/// name that
-/// gives no file, and each file whose reading fails, has a line in `err` unless the request is silent. The
-/// answer is the status: 0 where a line was selected, 1 where none was, and 2 where a name gave no file or
-/// a reading failed; but with -q 0 where a line was selected. Nothing was asked of `files` yet, and no
-/// directory is listed before the patterns and the files of globs are read.
+/// Searches the files that a request names, which a walk over its operands in a tree gives and the store of `files`
+/// opens, each when its turn comes. What is asked for of them goes to `out`, in the request's format; rows call a file
+/// by its path, and standard input by its label or else `(standard input)`. Each name that gives no file, and each file
+/// whose reading fails, has a line in `err` unless the request is silent. The answer is the status: 0 where a line was
+/// selected, 1 where none was, and 2 where a name gave no file or a reading failed; but with -q 0 where a line was
+/// selected. Nothing was asked of `files` yet, and no directory is listed before the patterns and the files of globs
+/// are read.
 ///
 /// # Errors
 ///
 /// `Told` where a fault ended the search, whose lines went to `err`: that of the first -f file that can't be read, then
 /// that of the first file of globs, then that of the patterns, the first of them that has one, or of their size, and
-/// then those that end a run. `out` got a beginning of its output then.
+/// then those that end a run; or, at any time, that a request for memory was refused. `out` got a beginning of its
+/// output then.
 pub fn answer<
     't,
     R: Threads + Wait + Clock + Sync,
@@ -159,7 +159,8 @@ fn helpers_for<R: Threads>(rt: &R, request: &Request<'_>) -> u32 {
     others.min(request.workers)
 }
 
-/// Has other threads look ahead in the trees that a request asks for. Those that can't be made are done without.
+/// Has other threads look ahead in the trees that a request asks for. Those that can't be made are done without. A
+/// refused request for the memory of what they are told to look for is the only error.
 fn prefetch<R: Threads, T: Prefetch<Helper: Send + Sync> + Send + Sync>(
     rt: &R,
     alloc: Global,

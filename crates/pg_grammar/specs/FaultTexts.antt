@@ -26,7 +26,7 @@ kind_text TooDeep = codes "groups too deep"
 kind_text OutOfMemory = codes "out of memory"
 kind_text TooLong = codes "pattern too long"
 
--- the first text for a refused growth, which stands nowhere, and the second for every other fault
+-- the first text for a refused request for memory, which stands nowhere, and the second for every other fault
 abbrev pub text_by_kind : FaultKind → List ℕ → List ℕ → List ℕ
 text_by_kind OutOfMemory memory other = memory
 text_by_kind kind memory other = other

@@ -1,4 +1,4 @@
--- Texts that are cut out of pattern lists.
+-- What slices refer to.
 use Rattle.std.specs.Prelude.{ℕ, List, [], ◌∷◌, map}
 use Rattle.std.specs.Borrow.{Bor}
 

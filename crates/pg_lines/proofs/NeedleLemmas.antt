@@ -130,20 +130,24 @@ least_behind at needles place behind stands =
     subst (λ o. IfSome o (λ p. at ≤ p)) stands.4.0
     (All-contains Behind needles stands.1 behind (stands.0, stands.2, stands.3))
 
+-- places in the bytes as they are searched, and in what stands behind one
+module _ (fold : Bool) (bytes searched : List ℕ) (at : ℕ) (is : searched ≡ as_searched fold bytes)
+    (within : at ≤ length bytes) where
+  pub whole_place : (p : List ℕ) (k : ℕ) → OccursAt (as_searched fold (drop at bytes)) p k
+      → OccursAt searched p (at + k)
+  whole_place p k o =
+      occurs_whole searched p at k (omega (arith, searched_length fold bytes searched is, within))
+      (subst (λ xs. OccursAt xs p k) (sym (searched_behind fold bytes searched at is within)) o)
+
+  pub part_place : (p : List ℕ) (k : ℕ) → OccursAt searched p (at + k)
+      → OccursAt (as_searched fold (drop at bytes)) p k
+  part_place p k o =
+      subst (λ xs. OccursAt xs p k) (searched_behind fold bytes searched at is within)
+      (occurs_part searched p at k (omega (arith, searched_length fold bytes searched is, within)) o)
+
 module _ (fold : Bool) (bytes searched : List ℕ) (at : ℕ) (needles : List Needle)
     (is : searched ≡ as_searched fold bytes)
     (within : at ≤ length bytes) (ahead : All (IsAhead searched at) needles) where
-  -- a place in what stands behind one
-  whole_place : (p : List ℕ) (k : ℕ) → OccursAt (as_searched fold (drop at bytes)) p k → OccursAt searched p (at + k)
-  whole_place p k o =
-      occurs_whole searched p at k (omega (arith, searched_length fold bytes searched is))
-      (subst (λ xs. OccursAt xs p k) (sym (searched_behind fold bytes searched at is within)) o)
-
-  part_place : (p : List ℕ) (k : ℕ) → OccursAt searched p (at + k) → OccursAt (as_searched fold (drop at bytes)) p k
-  part_place p k o =
-      subst (λ xs. OccursAt xs p k) (searched_behind fold bytes searched at is within)
-      (occurs_part searched p at k (omega (arith, searched_length fold bytes searched is)) o)
-
   -- where no needle stands further, no line holds a literal
   pub nowhere_further : (end : ℕ) → All (IsBefore None) needles
       → AreWithout fold end (map literal_of needles) (drop at bytes)
@@ -152,7 +156,7 @@ module _ (fold : Bool) (bytes searched : List ℕ) (at : ℕ) (needles : List Ne
       nowhere_lines fold end l.text (drop at bytes) (λ k o.
       let n = of_needle needles l among in
       let P : LiteralData → Type 0 = λ m. OccursAt (as_searched fold (drop at bytes)) m.text k in
-      let here = whole_place n.0.finder k (subst P (sym n.2) o) in
+      let here = whole_place fold bytes searched at is within n.0.finder k (subst P (sym n.2) o) in
       let next = (All-contains (IsAhead searched at) needles n.0 ahead n.1).first (at + k) (omega arith) here in
       not_next (at + k) n.0.next (All-contains (IsBefore None) needles n.0 none n.1) next))
     where
@@ -167,7 +171,7 @@ module _ (fold : Bool) (bytes searched : List ℕ) (at : ℕ) (needles : List Ne
   none_before place low least l among k from to o =
       let n = of_needle needles l among in
       let P : LiteralData → Type 0 = λ m. OccursAt (as_searched fold (drop at bytes)) m.text k in
-      let here = whole_place n.0.finder k (subst P (sym n.2) o) in
+      let here = whole_place fold bytes searched at is within n.0.finder k (subst P (sym n.2) o) in
       let next = (All-contains (IsAhead searched at) needles n.0 ahead n.1).first (at + k) (omega arith) here in
       let far = not_before place.at (at + k) n.0.next
       (All-contains (IsBefore (Some place)) needles n.0 least n.1) next in
@@ -196,7 +200,7 @@ module _ (fold : Bool) (bytes searched : List ℕ) (at : ℕ) (needles : List Ne
       let here = subst (λ o. IfSome o (OccursAt searched n.finder)) stands.4.0 own in
       let k = place.at - at in
       let from : place.at ≡ at + k = omega arith in
-      let o = part_place n.finder k (subst (OccursAt searched n.finder) from here) in
+      let o = part_place fold bytes searched at is within n.finder k (subst (OccursAt searched n.finder) from here) in
       let literals = map literal_of needles in
       let all = to_literal needles n among in
       let none = none_before place low least in

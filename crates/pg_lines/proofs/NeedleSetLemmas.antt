@@ -20,7 +20,7 @@ use Rattle.pg_literal.specs.declared.literal.Literal.{Literal}
 use Rattle.pg_lines.specs.declared.literal_set.LiteralSet.{LiteralSet}
 use Rattle.pg_lines.specs.Literals.{LiteralData, flagged, set_literals, data_of, IsEnough, AreLiterals}
 use Rattle.pg_lines.specs.Candidates.{AreWithout, IsFirstWith}
-use Rattle.pg_lines.proofs.NeedleLemmas.{occurs_whole, occurs_part, searched_behind, searched_length}
+use Rattle.pg_lines.proofs.NeedleLemmas.{occurs_whole, occurs_part, searched_behind, searched_length, whole_place, part_place}
 use Rattle.pg_lines.proofs.RunLemmas.{NoneBefore, nowhere_lines, without_each, line_around, place_below, line_some}
 use Rattle.pg_literal.proofs.RowLemmas.{any-map, any-unmap}
 
@@ -70,24 +70,13 @@ module _ (fold : Bool) (bytes searched : List ℕ) (at : ℕ) (strings : List (L
   abbrev literals : List LiteralData
   literals = map (flagged enough) strings
 
-  -- a place in what stands behind one
-  whole_place : (p : List ℕ) (k : ℕ) → OccursAt (as_searched fold (drop at bytes)) p k → OccursAt searched p (at + k)
-  whole_place p k o =
-      occurs_whole searched p at k (omega (arith, searched_length fold bytes searched is, within))
-      (subst (λ xs. OccursAt xs p k) (sym (searched_behind fold bytes searched at is (omega (arith, within)))) o)
-
-  part_place : (p : List ℕ) (k : ℕ) → OccursAt searched p (at + k) → OccursAt (as_searched fold (drop at bytes)) p k
-  part_place p k o =
-      subst (λ xs. OccursAt xs p k) (searched_behind fold bytes searched at is (omega (arith, within)))
-      (occurs_part searched p at k (omega (arith, searched_length fold bytes searched is, within)) o)
-
   -- a literal stands nowhere up to a place where no string does
   none_up_to : (stop : ℕ) → Nowhere (SomeStands strings searched) at stop
       → NoneBefore fold literals (drop at bytes) (stop - at)
   none_up_to stop none l among k from to o =
       let s = string_of enough strings l among in
       let P : LiteralData → Type 0 = λ m. OccursAt (as_searched fold (drop at bytes)) m.text k in
-      let here = whole_place s.0 k (subst P (sym s.2) o) in
+      let here = whole_place fold bytes searched at is (omega (arith, within)) s.0 k (subst P (sym s.2) o) in
       none (at + k) (omega arith) (omega (arith, to)) (s.1.0, s.0, s.1.1, s.1.2, here)
 
   -- where no string stands, no line holds a literal
@@ -127,7 +116,7 @@ module _ (fold : Bool) (bytes searched : List ℕ) (at : ℕ) (strings : List (L
       let among : Contains strings s = (stands.0, stands.2, stands.3) in
       let low = first.low in
       let from : place ≡ at + k = omega arith in
-      let o = part_place s k (subst (OccursAt searched s) from stands.4) in
+      let o = part_place fold bytes searched at is (omega (arith, within)) s k (subst (OccursAt searched s) from stands.4) in
       let none = none_up_to place first.before in
       let in_set = to_literal enough strings s among in
       let line = All-contains (λ l. IsLine E l.text) literals (flagged enough s) alone in_set in

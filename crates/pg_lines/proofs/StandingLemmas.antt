@@ -180,7 +180,6 @@ occurs_whole line s o same =
     ∙ get_or_default line k 0 d (omega (arith, less, same)))))
 
 module _ (strings : List (List ℕ)) (line : List ℕ) (some : All (λ s. 1 ≤ length s) strings) where
-
   -- a hit is the whole line
   pub hit_is_whole : (i j : ℕ) → IsStringHit strings Whole line i j → (i ≡ 0) × Contains strings line
   hit_is_whole i j hit =

@@ -23,7 +23,7 @@ use Rattle.pg_match.proofs.CacheLemmas.{answers_same, nothing_known, row_of, at_
 use Rattle.pg_match.proofs.CacheLemmas.{sets_shape, starts_same}
 use Rattle.pg_match.proofs.SearchLemmas.{edge_moves}
 use Rattle.pg_match.proofs.SkimLemmas.{no_cross}
-use Rattle.pg_match.proofs.StandsLemmas.{reads_edge, edge_reads, ends_here, ends_at_last}
+use Rattle.pg_match.proofs.StandsLemmas.{reads_edge, edge_reads, ends_here, ends_at_last, crossing}
 use Rattle.pg_match.proofs.StepLemmas.{edge_still}
 use Rattle.pg_match.specs.Closures.{Leads}
 
@@ -105,24 +105,6 @@ module _ (m : Nfa) (l : List ℕ) (s : ℕ) where
 
   module _ (p b : ℕ) (S U : ℕ → Type 0) (is : slice_get l p ≡ Some b) (lt : p < length l) (at : StandsFrom m l s p S)
       (g : GoesAlone m.states b S U) where
-    crosses : (k q j : ℕ) → S q → Runs m.states l k q p j → p + 1 ≤ j
-        → (r : ℕ) × (n : ℕ) × U r × Runs m.states l n r (p + 1) j
-    crosses zero q j h run past = absurd (omega (arith, run.1))
-    crosses (suc k) q j h run past =
-        elim (edge_moves (slice_get m.states q) l p run.0 run.1 run.2) [
-          | inl stays ↦
-              crosses k run.0 j (at.closed lt q run.0 h
-              (subst (λ v. Edge (slice_get m.states q) l p run.0 v) stays run.2))
-              (subst (λ v. Runs m.states l k run.0 v j) stays run.3) past
-          | inr moves ↦ (
-            run.0,
-            k,
-            g.goes q run.0 h (edge_reads (slice_get m.states q) l p b run.0 is
-                (subst (λ v. Edge (slice_get m.states q) l p run.0 v) moves run.2)),
-            subst (λ v. Runs m.states l k run.0 v j) moves run.3,
-          )
-        ]
-
     -- behind the byte
     pub stands_behind : StandsFrom m l s (p + 1) U
     stands_behind = record {
@@ -131,7 +113,7 @@ module _ (m : Nfa) (l : List ℕ) (s : ℕ) where
           λ n j run.
           let to_y = w.4 l (p + 1) (λ f. absurd (true≢false (sym f))) (λ f. absurd (true≢false (sym f))) n j run in
           at.sound w.0 w.2 (suc to_y.0) j (w.1, p + 1, reads_edge (slice_get m.states w.0) l p b w.1 is w.3, to_y.1);
-      complete = λ n j run past. let c = at.complete n j run (omega arith) in crosses c.1 c.0 j c.2 c.3 past;
+      complete = λ n j run past. let c = at.complete n j run (omega arith) in crossing m.states l p b S U is (at.closed lt) g.goes c.1 c.0 j c.2 c.3 past;
       closed = λ more q r h edge.
           g.still q h r (edge_still false false (slice_get m.states q) l (p + 1) r (λ z. absurd (omega arith))
           (λ z. absurd (omega arith)) edge);

@@ -506,6 +506,22 @@ visits_on p h n v w le later add = let more : p + 1 ≤ h + 1 = omega arith in o
 pub visits_after : (l n size v w k : ℕ) → size ≡ n → v ≤ l * size → w ≤ v + k → k ≤ n → w ≤ (l + 1) * n
 visits_after l n size v w k same le more few = let le' = subst (λ u. v ≤ l * u) same le in omega arith
 
+-- what a search of a line may visit, where the line and the states are few
+pub most_small : (l n size : ℕ) → size ≡ n → l ≤ 2 ^ 30 → n < 2 ^ 64 → l * size < 2 ^ 98
+most_small l n size same short few = let less : size ≤ 2 ^ 64 = omega arith in omega (arith, mul-le-mul_left l less)
+
+pub within_most : (l n size v : ℕ) → size ≡ n → l ≤ 2 ^ 30 → n < 2 ^ 64 → v ≤ l * size → v < 2 ^ 98
+within_most l n size v same short few le = let small = most_small l n size same short few in omega arith
+
+pub within_room : (l n size v : ℕ) → size ≡ n → l ≤ 2 ^ 30 → n < 2 ^ 64 → v ≤ l * size → v < 2 ^ 99
+within_room l n size v same short few le = let small = most_small l n size same short few in omega arith
+
+pub visits_whole : (l n size v w : ℕ) → size ≡ n → v ≤ l * size → w ≤ v + n → w ≤ (l + 1) * n
+visits_whole l n size v w same le more = visits_after l n size v w n same le more (omega arith)
+
+pub visited : (old new len n : ℕ) → new ≡ old + len → len ≤ n → new ≤ old + n
+visited old new len n more fits = omega arith
+
 pub visits_reached : (r h n v k size : ℕ) → v ≤ r * n + k → k ≤ size → size ≡ n → r ≤ h → v ≤ (h + 1) * n
 visits_reached r h n v k size le few same later =
     let more : r + 1 ≤ h + 1 = omega arith in omega (arith, mul-le-mul_left n more)

@@ -126,6 +126,27 @@ quiet_run m l U still quiet (suc n) q i j inside here run =
 begins_whole : (o : Bounds) (l : List ℕ) (i : ℕ) → o ≡ Whole → MayBegin o l i → i ≡ 0
 begins_whole o l i is h = subst (λ o. MayBegin o l i) is h
 
+-- A run from a state of the set S at a byte goes on behind the byte from one of the set U: S is closed before the byte,
+-- and has the byte lead to U.
+pub crossing : (t : List State) (l : List ℕ) (p b : ℕ) (S U : ℕ → Type 0) → slice_get l p ≡ Some b
+    → ((q r : ℕ) → S q → Edge (slice_get t q) l p r p → S r) → ((q r : ℕ) → S q → Reads (slice_get t q) b r → U r)
+    → (k q j : ℕ) → S q → Runs t l k q p j → p + 1 ≤ j → (r : ℕ) × (n : ℕ) × U r × Runs t l n r (p + 1) j
+crossing t l p b S U is closed goes zero q j h run past = absurd (omega (arith, run.1))
+crossing t l p b S U is closed goes (suc k) q j h run past =
+    elim (edge_moves (slice_get t q) l p run.0 run.1 run.2) [
+      | inl stays ↦
+          crossing t l p b S U is closed goes k run.0 j (closed q run.0 h
+          (subst (λ v. Edge (slice_get t q) l p run.0 v) stays run.2))
+          (subst (λ v. Runs t l k run.0 v j) stays run.3) past
+      | inr moves ↦ (
+        run.0,
+        k,
+        goes q run.0 h (edge_reads (slice_get t q) l p b run.0 is
+            (subst (λ v. Edge (slice_get t q) l p run.0 v) moves run.2)),
+        subst (λ v. Runs t l k run.0 v j) moves run.3,
+      )
+    ]
+
 module _ (m : Nfa) (l : List ℕ) where
   pub stands_first : (S : ℕ → Type 0) → Starts m true S → Stands m l 0 0 S
   stands_first S s = record {
@@ -195,21 +216,7 @@ module _ (m : Nfa) (l : List ℕ) where
       (g : Goes m b S U) where
     crosses : (k q j : ℕ) → S q → Runs m.states l k q p j → p + 1 ≤ j → (r : ℕ) × (n : ℕ) × U r
         × Runs m.states l n r (p + 1) j
-    crosses zero q j h run past = absurd (omega (arith, run.1))
-    crosses (suc k) q j h run past =
-        elim (edge_moves (slice_get m.states q) l p run.0 run.1 run.2) [
-          | inl stays ↦
-              crosses k run.0 j (s.closed lt q run.0 h
-              (subst (λ v. Edge (slice_get m.states q) l p run.0 v) stays run.2))
-              (subst (λ v. Runs m.states l k run.0 v j) stays run.3) past
-          | inr moves ↦ (
-            run.0,
-            k,
-            g.goes q run.0 h (edge_reads (slice_get m.states q) l p b run.0 is
-                (subst (λ v. Edge (slice_get m.states q) l p run.0 v) moves run.2)),
-            subst (λ v. Runs m.states l k run.0 v j) moves run.3,
-          )
-        ]
+    crosses = crossing m.states l p b S U is (s.closed lt) g.goes
 
     -- where a byte leads to a set that is spent, no match ends before the byte or behind it
     pub no_run_behind : IsRunnable m → (HitBefore m b S → ⊥) → IsSpent m U → HasRun m l from → ⊥

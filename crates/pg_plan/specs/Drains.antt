@@ -17,9 +17,11 @@ Drained (Ok u) past text = (past.failed ≡ false) × (past.written ++ text ≡ 
 Drained (Err WriteFailed) past text = (past.failed ≡ false) × IsBeginning (past.written ++ text) (handed past)
 Drained (Err Failed) past text = (past.failed ≡ true) × (text ≡ [])
 
+-- a drain that answers so failed
 abbrev pub fails : Result (Unit {0}) SinkFault → Bool
 fails (Ok u) = false
 fails (Err fault) = true
 
+-- behind a drain that wrote a text
 abbrev pub drained : Past → List ℕ → Result (Unit {0}) SinkFault → Past
 drained past text result = record past { written = past.written ++ text; failed = past.failed || fails result }

@@ -17,18 +17,21 @@ pub data Event : Type 0 where
   Planned : (step : Step) → Event
   Arrived : (result : Searched) → Event
 
+-- the steps of the plan calls
 abbrev pub plan_of : List Event → List Step
 plan_of [] = []
 plan_of (Planned step ∷ events) = step ∷ plan_of events
 plan_of (Arrived result ∷ events) = plan_of events
 
+-- the block is that of this file and number
 abbrev pub is_block : ℕ → ℕ → BlockData → Bool
 is_block file number b = b.file == file && b.number == number
 
 -- a pair of file and number is among those
 abbrev pub is_taken : List (ℕ × ℕ) → BlockData → Bool
-is_taken taken b = list_any (λ key. b.file == key.0 && b.number == key.1) taken
+is_taken taken b = list_any (λ key. is_block key.0 key.1 b) taken
 
+-- what a result is that comes first, by whether its block is the announced one
 abbrev pub if_same : Bool → Arrival
 if_same same = if same then Taken else Stranger
 
@@ -44,6 +47,7 @@ arrival q plan taken r =
     then arrival_at (find (is_block r.block.file r.block.number) (announced plan)) taken r.block
     else Stranger
 
+-- which blocks were taken, behind an arrival
 abbrev pub taken_after : Arrival → BlockData → List (ℕ × ℕ) → List (ℕ × ℕ)
 taken_after Taken b taken = (b.file, b.number) ∷ taken
 taken_after Double b taken = taken
@@ -56,6 +60,7 @@ taken_of q (Planned step ∷ events) = taken_of q events
 taken_of q (Arrived r ∷ events) =
     taken_after (arrival q (plan_of events) (taken_of q events) r) r.block (taken_of q events)
 
+-- each announced block was taken
 abbrev pub all_taken : List (ℕ × ℕ) → List Step → Bool
 all_taken taken plan = list_all (is_taken taken) (announced plan)
 
@@ -72,21 +77,27 @@ pub record Past : Type 0 where
   pub written : List ℕ
   pub failed : Bool
 
+-- nothing has happened yet
 abbrev pub start : Search → Format → Past
 start q format = record { query = q; format = format; events = []; written = []; failed = false }
 
+-- behind a plan call
 abbrev pub planned : Past → Step → Past
 planned past step = record past { events = Planned step ∷ past.events }
 
+-- behind an arrival
 abbrev pub arrived : Past → Searched → Past
 arrived past result = record past { events = Arrived result ∷ past.events }
 
+-- the plan by now
 abbrev pub plan : Past → List Step
 plan past = plan_of past.events
 
+-- what an arrival is behind these events
 unfoldable pub answer_after : Search → List Event → Searched → Arrival
 answer_after q events r = arrival q (plan_of events) (taken_of q events) r
 
+-- how far the front of the plan has come behind these events
 unfoldable pub front_after : Search → List Event → List Step
 front_after q events = front (taken_of q events) (plan_of events)
 
@@ -108,5 +119,6 @@ handed past = handed_after past.query past.format past.events
 abbrev pub IsComplete : Past → Type 0
 IsComplete past = (is_open (plan past) ≡ false) × (front_of past ≡ plan past)
 
+-- the exit status of the files of the plan
 abbrev pub status_of : Past → ℕ
 status_of past = status past.query past.format (entries_of (plan past))

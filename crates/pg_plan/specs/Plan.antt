@@ -6,12 +6,14 @@ use Rattle.pg_blocks.specs.Blocks.{BlockData, joined, EndsWith}
 use Rattle.pg_blocks.specs.Lines.{lines}
 use Rattle.pg_base.specs.Entries.{Entry, Missed, Read, Running, Ended, Failed}
 
+-- what is told of files: one opens, its next block is announced, it ends, and a name gives no file
 pub data Step : Type 0 where
   Opens : (name : List ℕ) → Step
   Announces : (block : BlockData) → Step
   Ends : (failed : Bool) → Step
   Misses : (name : List ℕ) → Step
 
+-- a file is open
 abbrev pub is_open : List Step → Bool
 is_open [] = false
 is_open (Opens name ∷ plan) = true

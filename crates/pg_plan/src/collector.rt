@@ -10,7 +10,7 @@ use pg_base::Sink;
 pub trait Collector<F> {
     ghost use Rattle.pg_plan.specs.History.{Past, arrived, answer, handed};
     ghost use Rattle.pg_plan.specs.Drains.{Drained, IsSafe, drained};
-    ghost use Rattle.pg_plan.specs.declared.answers.SinkFault.TheVariants.{WriteFailed};
+    ghost use Rattle.pg_plan.specs.declared.answers.SinkFault.TheVariants.{Failed, WriteFailed};
     ghost use Rattle.pg_selection.specs.Searched.{Searched};
 
     /// It stands after this.
@@ -24,18 +24,20 @@ pub trait Collector<F> {
         ensures answer { (past : Past) → stands self.old past → result ≡ answer past (searched found) }
         ensures stands { (past : Past) → stands self.old past → stands self.new (arrived past (searched found)) };
 
-    /// Writes all that may be handed out and was not yet written.
+    /// Writes all that may be handed out and was not yet written, which is a beginning of what the plan gives. At `Ok`
+    /// no write failed; the writer's failures never fall.
     ///
     /// # Errors
     ///
     /// `WriteFailed` where a write failed in this call or took no byte of a text that isn't empty; a beginning of
-    /// what was due was written. `Failed` where an earlier call answered `WriteFailed`; nothing is written.
+    /// what was due was written. `Failed` where an earlier call answered `WriteFailed`; nothing is asked of the writer.
     fn drain<W: Sink>(&mut self, out: &mut W) -> Result<(), SinkFault>
         ensures drained { (past : Past) → stands self.old past → (text : List ℕ)
             × ((W.stream out.new).taken ≡ (W.stream out.old).taken ++ text)
             × Drained result past text × stands self.new (drained past text result) }
         ensures safe { (past : Past) → stands self.old past → IsSafe past (handed past) }
         ensures cause { IsErrOf result WriteFailed → (W.stream out.old).failures < (W.stream out.new).failures }
+        ensures failed { IsErrOf result Failed → W.stream out.new ≡ W.stream out.old }
         ensures no_failure { OnOk result ((W.stream out.new).failures ≡ (W.stream out.old).failures) }
         ensures never_falls { (W.stream out.old).failures ≤ (W.stream out.new).failures };
 }

@@ -1,4 +1,4 @@
--- The lines of a pattern that is shown, by their parts. For fault::shown_parts and fault::tell_shown.
+-- The lines of a pattern that is shown, by their parts. For telling::shown_parts and telling::tell_shown.
 use Rattle.std.proofs.Common.{◌≡◌, ℕ, ◌+◌, List, [], ◌++◌, append-nil, append_assoc, codes, refl, replicate}
 use Rattle.std.specs.Prelude.{slice_index}
 use Rattle.std.specs.Fmt.{decimal}

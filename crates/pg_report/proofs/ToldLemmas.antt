@@ -1,4 +1,4 @@
--- What was written, for `tell_parts` and `show`.
+-- What was written, for `tell_parts`, and for `show` of `pg_command`.
 use Rattle.std.proofs.Common.{◌≡◌, true, false, List, ℕ, Result, Ok, Err, inl, inr, sym}
 use Rattle.std.proofs.lemmas.Bool.{false≢true}
 use Rattle.std.specs.Result.{is_err}

@@ -11,6 +11,7 @@ use Rattle.pg_request.specs.declared.fault.Fault.{Fault}
 use Rattle.pg_request.specs.declared.fault.Fault.TheVariants.{NotText, Usage, Unreadable, Pattern, TooLarge}
 use Rattle.pg_request.specs.declared.fault.Fault.TheVariants.{OutOfMemory, WriteFailed, TooManyFiles, LineTooLong}
 
+-- a line that is about no file and no pattern
 abbrev pub plain_line : List ℕ → List ℕ
 plain_line text = codes "pargrep: " ++ text ++ codes "\n"
 
@@ -44,10 +45,10 @@ lines_of texts (Pattern fault) = lines_of_pattern (shown_text texts fault) fault
 lines_of texts fault = line_of fault
 
 -- it is about neither a file nor a pattern
-abbrev pub IsOfNoFile : Fault → Type 0
-IsOfNoFile (Unreadable name cause) = ⊥
-IsOfNoFile (Pattern fault) = ⊥
-IsOfNoFile fault = Unit {0}
+abbrev pub IsPlain : Fault → Type 0
+IsPlain (Unreadable name cause) = ⊥
+IsPlain (Pattern fault) = ⊥
+IsPlain fault = Unit {0}
 
 -- the text was written; or a beginning of it, and standard error failed
 abbrev pub TellsText : List ℕ → Stream → Stream → Type 0

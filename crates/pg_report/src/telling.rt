@@ -4,7 +4,7 @@ ghost use Rattle.std.specs.List.{flat_map};
 ghost use Rattle.pg_grammar.specs.Slices.{bytes_of};
 ghost use Rattle.pg_run.specs.Told.{fault_line as file_line};
 ghost use Rattle.pg_report.specs.Shown.{shown_lines, shown_text};
-ghost use Rattle.pg_report.specs.Told.{IsOfNoFile, TellsFault, TellsOfSearch, TellsText, line_of, lines_of_pattern};
+ghost use Rattle.pg_report.specs.Told.{IsPlain, TellsFault, TellsOfSearch, TellsText, line_of, lines_of_pattern};
 ghost use Rattle.pg_report.specs.Told.{pattern_line, plain_line};
 
 use crate::shown::{advice, blanks, byte_at, shown_text};
@@ -20,7 +20,7 @@ pub const FAULT_STATUS: u8 = 2;
 
 /// What a fault's line says is wrong, where that is neither about a file nor about a pattern.
 fn reason_of(fault: Fault<'_>) -> &'static str
-    ensures { IsOfNoFile fault.entry → line_of fault.entry ≡ plain_line result.now }
+    ensures { IsPlain fault.entry → line_of fault.entry ≡ plain_line result.now }
 {
     match fault {
         Fault::NotText => "an argument is not UTF-8",
@@ -34,8 +34,8 @@ fn reason_of(fault: Fault<'_>) -> &'static str
     }
 }
 
-/// Writes the line of a fault to standard error; where that fails, a beginning of it. The answer is the status that the
-/// program ends with.
+/// Writes the line of a fault to standard error; where that fails, a beginning of it. The answer is 2, the status that
+/// the program ends with.
 pub fn report<W: Sink>(alloc: Global, fault: Fault<'_>, err: &mut W) -> u8
     ensures status { result ≡ 2 }
     ensures told { TellsFault fault.entry (W.stream err.old) (W.stream err.new) }
@@ -49,8 +49,9 @@ pub fn report<W: Sink>(alloc: Global, fault: Fault<'_>, err: &mut W) -> u8
 }
 
 /// Writes the lines of a fault of a search for the patterns of these texts to standard error: its line, and below that
-/// of a pattern the pattern with a mark under the place, and what to write instead, where that is known. Where writing
-/// fails, a beginning of them.
+/// of a pattern the pattern with a mark under the place, and what to write instead, where that is known. A pattern is
+/// shown where no text has several, and where it is printable ASCII of at most 200 bytes. Where writing fails, a
+/// beginning of the lines.
 pub fn tell_of_search<W: Sink>(alloc: Global, texts: &[&str], fault: Fault<'_>, err: &mut W)
     ensures { TellsOfSearch (bytes_of texts.now) fault.entry (W.stream err.old) (W.stream err.new) }
 {

@@ -5,6 +5,7 @@ use Rattle.pg_walk.specs.Places.{is_standard_input}
 use Rattle.pg_walk.specs.declared.tree.FileKind.{FileKind}
 use Rattle.pg_walk.specs.declared.tree.FileKind.TheVariants.{Regular, Directory, Link, Other}
 
+-- this kind is that of a directory
 abbrev pub is_directory : Option FileKind → Bool
 is_directory None = Bool.false
 is_directory (Some Regular) = Bool.false
@@ -12,9 +13,9 @@ is_directory (Some Directory) = Bool.true
 is_directory (Some Link) = Bool.false
 is_directory (Some Other) = Bool.false
 
--- Where there is one operand, this says whether it is a directory, links followed; `-` is none.
+-- the one operand is a directory, links followed; `-` is none
 abbrev pub IsDirectory : Tree → List (List ℕ) → Bool → Type 0
-IsDirectory tree [] directory = Unit {0}
+IsDirectory tree [] directory = directory ≡ Bool.false
 IsDirectory tree (file ∷ []) directory =
     directory ≡ (not (is_standard_input file) && is_directory (tree.kind file Bool.true))
-IsDirectory tree (file ∷ other ∷ files) directory = Unit {0}
+IsDirectory tree (file ∷ other ∷ files) directory = directory ≡ Bool.false

@@ -25,9 +25,9 @@ IsUnread path cause past past' =
     ((past' ≡ NoFile path cause ∷ past) × (is_output (NoFile path cause) ≡ false))
     ⊎ ((cause ≡ ReadFailed) × (bytes : List ℕ) × (past' ≡ File path bytes Failed ∷ past))
 
--- the path wasn't opened, or some of its file was read
-abbrev pub IsNotReadWhole : List ℕ → List Given → List Given → Type 0
-IsNotReadWhole path past past' =
+-- the path wasn't opened, or its file was read as far as memory was there
+abbrev pub IsGivenUp : List ℕ → List Given → List Given → Type 0
+IsGivenUp path past past' =
     (past' ≡ past)
     ⊎ ((bytes : List ℕ) × (ending : Ending) × (is_failed ending ≡ false) × (past' ≡ File path bytes ending ∷ past))
 
@@ -47,7 +47,7 @@ IsReadOrGivenUp path past (Err _) bytes past' = (got : List ℕ) × (past' ≡ F
 abbrev pub StopsAt : List ℕ → List Given → List Given → Fault → Type 0
 StopsAt path past past' (Unreadable name cause) =
     (name.now ≡ shown_name standard_input path) × IsUnread path cause past past'
-StopsAt path past past' OutOfMemory = IsNotReadWhole path past past'
+StopsAt path past past' OutOfMemory = IsGivenUp path past past'
 StopsAt path past past' NotText = ⊥
 StopsAt path past past' (Usage fault) = ⊥
 StopsAt path past past' (Pattern fault) = ⊥
@@ -56,7 +56,7 @@ StopsAt path past past' WriteFailed = ⊥
 StopsAt path past past' TooManyFiles = ⊥
 StopsAt path past past' LineTooLong = ⊥
 
--- The files in front of some path were read, and that one wasn't.
+-- The files in front of some path were read, and that one stopped it.
 pub record FailsToReadAll (paths : List (List ℕ)) (past past' : List Given) (fault : Fault) : Type 0 where
   pub front : List (List ℕ)
   pub path : List ℕ

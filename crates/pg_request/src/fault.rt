@@ -14,7 +14,7 @@ pub enum Fault<'a> {
     NotText,
     /// The words of the command line ask for nothing.
     Usage(UsageFault),
-    /// The file of patterns of this name couldn't be opened or read to its end, and why.
+    /// The file of patterns or of globs of this name couldn't be opened or read to its end, and why.
     Unreadable(&'a str, Cause),
     /// A pattern is no expression.
     Pattern(ListFault),

@@ -1,7 +1,7 @@
 //! What a request asks for, as it is read before the run: the files of patterns and of globs, the query, which part of
 //! the trees is searched, and what a terminal changes.
 //!
-//! The faults of the program stand here, below all that meet them; how they are told is the command's.
+//! The faults of the program stand here, below all that meet them; `pg_report` tells them.
 #![tactic(auto)]
 
 mod colors;

@@ -7,8 +7,8 @@ ghost use Rattle.pg_request.specs.Operands.{IsDirectory};
 use pg_walk::{FileKind, FileTree, LookFault};
 use std::alloc::{AllocError, Global};
 
-/// Whether the one operand is a directory, links followed; what can't be looked at is none. With several operands the
-/// answer is false, and doesn't matter.
+/// Whether the one operand is a directory, links followed, in a tree that tells its answers; what can't be looked at is
+/// none, nor is `-`. With several operands, or none, the answer is false.
 ///
 /// # Errors
 ///

@@ -13,8 +13,9 @@ use pg_walk::{Devices, Scope};
 use pg_words::{DeviceAction, FileFilter, Request};
 use std::alloc::{AllocError, Global};
 
-/// The globs of a request, read, whether directories are visited, and whether links are followed below operands. The
-/// files of globs have these contents. A refused request for memory is the only error.
+/// Which part of the trees a request asks for: its globs, read, whether directories are visited (-r) or skipped (-d),
+/// whether links are followed below operands (-R), and what is done with devices (-D). The files of globs have these
+/// contents. A refused request for memory is the only error.
 pub fn read_scope(
     alloc: Global,
     request: &Request<'_>,

@@ -9,6 +9,7 @@ use Rattle.pg_grammar.specs.Same.{same_patterns, patterns_equal, equivalence_of}
 pub use Rattle.pg_grammar.specs.Same.{TestsEqual}
 use Rattle.pg_selection.specs.Search.{SearchText, Patterns, Kind, Basic, Extended, Fixed}
 
+-- a number for each kind
 abbrev pub kind_number : Kind → ℕ
 kind_number Basic = 0
 kind_number Extended = 1

@@ -32,6 +32,7 @@ pub record Search : Type 0 where
   pub text : SearchText
   pub trees : List Pattern
 
+-- the trees are those that its patterns spell
 abbrev pub HasItsTrees : Search → Type 0
 HasItsTrees q = AreTreesOf q.text q.trees
 
@@ -60,5 +61,6 @@ bounds_of text = if text.whole then Whole else if text.word then Word else Any
 abbrev pub terminator_of : SearchText → ℕ
 terminator_of text = if text.zero then 0 else 10
 
+-- that of a query
 abbrev pub terminator : Search → ℕ
 terminator q = terminator_of q.text

@@ -7,6 +7,7 @@ use Rattle.pg_selection.specs.BlockParts.{HasParts}
 use Rattle.pg_selection.specs.declared.run.Found.{Found}
 use Rattle.pg_blocks.specs.Blocks.{BlockData}
 
+-- which query was asked of which block
 pub record Searched : Type 0 where
   pub query : SearchText
   pub block : BlockData

@@ -11,8 +11,8 @@ use std::sync::Arc;
 
 /// The lines of a block that are selected, and their matched parts where they are asked for.
 ///
-/// Contracts see the text that selects them and the block, which determine the rest. What isn't selected takes no
-/// memory: the selected lines are kept as runs of neighbours.
+/// Contracts see the text that selects them and the block, which determine which lines and parts these are. What isn't
+/// selected takes no memory: the selected lines are kept as runs of neighbours.
 #[derive(Drop)]
 pub struct BlockResult<A: Allocator = Global> {
     selector: Arc<Selector<A>, A>,
@@ -36,7 +36,8 @@ impl<A: Allocator> BlockResult<A> {
     ghost use Rattle.pg_selection.specs.Runs.{HasRuns};
     ghost use Rattle.pg_selection.specs.BlockParts.{HasParts};
 
-    /// The result of a search that found all that is selected in a block.
+    /// The result of a search that found all that is selected in a block: the runs are of just the selected lines, the
+    /// parts are theirs where they are asked for, and the number of lines is that of the block.
     pub fn new(
         selector: Arc<Selector<A>, A>,
         block: Arc<Block<A>, A>,

@@ -115,7 +115,7 @@ impl<A: Allocator> Selector<A> {
         Selector { text }
     }
 
-    /// The patterns and options.
+    /// The patterns and options. Each of the patterns is an expression of its kind.
     pub fn text(&self) -> &QueryText<A>
         ensures text { result.now ≡ self.now }
         ensures spelled { HasTrees self.now }

@@ -43,7 +43,6 @@ front_taken taken [] = refl
 front_taken taken (s ∷ p) = front_taken_by taken s p (all_taken taken (s ∷ p)) refl (front_taken taken p)
 
 module _ {A : Type 0} where
-
   pub ready_all : (slots : List (Slot A)) → list_all (λ b. b) (map has_result slots) ≡ true → ready slots ≡ length slots
   ready_all [] e = refl
   ready_all (x ∷ slots) e =

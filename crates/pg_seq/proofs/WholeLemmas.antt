@@ -22,5 +22,4 @@ unfolding front_after
 front_whole past e = front_all (taken_of past.query past.events) (plan past) e
 
 module _ (q : Search) where
-
   module _ (format : Format) (room : HasRoom format) where

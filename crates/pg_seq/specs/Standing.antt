@@ -23,7 +23,7 @@ use Rattle.pg_seq.specs.declared.opening.Opening.{Opening}
 use Rattle.pg_seq.specs.declared.slot.Slot.{Slot}
 use Rattle.pg_plan.specs.declared.answers.Arrival.TheVariants.{Taken}
 use Rattle.pg_plan.specs.declared.answers.SinkFault.{SinkFault}
-use Rattle.pg_plan.specs.declared.answers.SinkFault.TheVariants.{WriteFailed}
+use Rattle.pg_plan.specs.declared.answers.SinkFault.TheVariants.{Failed, WriteFailed}
 use Rattle.pg_seq.specs.declared.assembler.Assembler.{Assembler}
 
 -- how many blocks were announced before each file that was opened, in the files' order
@@ -122,12 +122,14 @@ TellsStatus s told = (past : Past) → IsAfter s past →
     MatchOption told (IsComplete past → ⊥) (λ status. IsComplete past × (status ≡ status_of past))
 
 -- A drain did so, behind each past after which it stood. Where it tells of a write that failed in it, the sink has
--- counted a failure, and where it tells of none, no failure.
+-- counted a failure; where it tells of an earlier one, the sink was asked nothing; and where of none, it has counted
+-- none.
 pub record Drains {A : Type 0} (old new : Assembler A) (before after : Stream) (result : Result (Unit {0}) SinkFault)
     : Type 0 where
   pub drained : (past : Past) → IsAfter old past → (text : List ℕ) × (after.taken ≡ before.taken ++ text)
       × Drained result past text × IsAfter new (drained past text result)
   pub cause : IsErrOf result WriteFailed → before.failures < after.failures
+  pub failed : IsErrOf result Failed → after ≡ before
   pub no_failure : OnOk result (after.failures ≡ before.failures)
   pub never_falls : before.failures ≤ after.failures
 

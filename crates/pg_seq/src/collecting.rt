@@ -11,7 +11,7 @@ impl<A: Allocator> Collector<BlockResult<A>> for Sequencer<A> {
     ghost use Rattle.pg_plan.specs.History.{Past, arrived, answer, handed};
     ghost use Rattle.pg_seq.specs.Standing.{IsAfter};
     ghost use Rattle.pg_plan.specs.Drains.{Drained, IsSafe, drained};
-    ghost use Rattle.pg_plan.specs.declared.answers.SinkFault.TheVariants.{WriteFailed};
+    ghost use Rattle.pg_plan.specs.declared.answers.SinkFault.TheVariants.{Failed, WriteFailed};
 
     ghost stands = { λ s past. IsAfter s past };
 
@@ -30,6 +30,7 @@ impl<A: Allocator> Collector<BlockResult<A>> for Sequencer<A> {
             × Drained result past text × IsAfter self.new (drained past text result) }
         ensures safe { (past : Past) → IsAfter self.old past → IsSafe past (handed past) }
         ensures cause { IsErrOf result WriteFailed → (W.stream out.old).failures < (W.stream out.new).failures }
+        ensures failed { IsErrOf result Failed → W.stream out.new ≡ W.stream out.old }
         ensures no_failure { OnOk result ((W.stream out.new).failures ≡ (W.stream out.old).failures) }
         ensures never_falls { (W.stream out.old).failures ≤ (W.stream out.new).failures }
     {

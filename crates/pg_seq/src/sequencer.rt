@@ -138,7 +138,7 @@ impl<A: Allocator> Sequencer<A> {
     ///
     /// `WriteFailed` where a write failed in this call or took no byte of a text that isn't empty;
     /// a beginning of what was due was written. `Failed` where an earlier call answered
-    /// `WriteFailed`; nothing is written.
+    /// `WriteFailed`; nothing is asked of the writer.
     pub fn drain<W: Sink>(&mut self, out: &mut W) -> Result<(), SinkFault>
         ensures { Drains self.old self.new (W.stream out.old) (W.stream out.new) result }
     {

@@ -18,7 +18,7 @@ Patterns, one on each line:
   -e, --regexp=TEXT          use the patterns in TEXT; can be repeated
   -f, --file=FILE            use the patterns in FILE; can be repeated
   -i, -y, --ignore-case      ignore the case of letters
-      --no-ignore-case       heed it (default); the last one counts
+      --no-ignore-case       respect case (default); the last one counts
   -w, --word-regexp          match only whole words
   -x, --line-regexp          match only whole lines
   -v, --invert-match         select the lines that do not match
@@ -30,9 +30,9 @@ Output:
   -L, --files-without-match  print the names of files without one
   -q, --quiet, --silent      print nothing; only the exit status tells
   -o, --only-matching        print the matching parts of selected lines
-  -n, --line-number          print the number of each line before it
-  -b, --byte-offset          print the offset of each line before it, or with
-                             -o of each part: bytes from the file's start
+  -n, --line-number          print each line's number before it
+  -b, --byte-offset          print each line's offset before it, or with -o
+                             each part's: bytes from the file's start
   -H, --with-filename        print the name of the file before each line
   -h, --no-filename          never print names of files before lines
       --label=NAME           call standard input NAME
@@ -40,7 +40,7 @@ Output:
   -T, --initial-tab          print a tab after the name, number and offset
   -m, --max-count=N          stop after N selected lines of each file
   -A, --after-context=N      print N lines after each selected line
-  -B, --before-context=N     print N lines before it, at most 65,535
+  -B, --before-context=N     print N lines before each, at most 65,535
   -C, --context=N            print N lines before and after, at most 65,535;
                              -5 is the same as -C 5
       --group-separator=TEXT print TEXT between groups of lines, at most 64
@@ -48,32 +48,32 @@ Output:
       --no-group-separator   print nothing between them; the last one counts
       --color[=WHEN], --colour[=WHEN]
                              color matches, names and numbers: always, never
-                             (default), or auto, on a terminal alone, which
-                             a missing WHEN stands for
+                             (default) or auto (only on a terminal); without
+                             =WHEN it is auto
       --line-buffered        print lines as soon as they are found
 
 Files:
   -r, --recursive            search the files below each directory
   -R, --dereference-recursive
                              as -r, and follow links below directories too
-  -d, --directories=ACTION   read directories, which fails, skip them, or recurse,
-                             which is -r; the last one counts
+  -d, --directories=ACTION   read directories (an error), skip them, or recurse
+                             (as -r); the last one counts
   -D, --devices=ACTION       read devices, FIFOs and sockets, or skip them; by
-                             default only operands are read
+                             default only those named are read
       --include=GLOB         search only files whose name matches GLOB
       --exclude=GLOB         leave out files whose name matches GLOB
       --exclude-from=FILE    leave out files whose name a glob in FILE matches
       --exclude-dir=GLOB     leave out directories whose name matches GLOB
   -s, --no-messages          suppress messages about unreadable files
   -a, --text                 no effect: every file is text
-  -U, --binary               no effect either, and so has
-      --binary-files=text    this; other types are refused
+  -U, --binary               no effect
+      --binary-files=text    no effect; other types are refused
 
 Performance (never changes the output):
       --workers=N            search with up to N threads beside the one that
                              reads, 1 to 64 (default 4)
-      --block=N              cut files into blocks of N bytes, 1 to 16,777,216
-                             (default 65,536)
+      --block=N              cut files into blocks of at least N bytes,
+                             1 to 16,777,216 (default 65,536)
       --round=N              search up to N blocks together, 1 to 1,024
                              (default 64); with 1 all is done by one thread
 

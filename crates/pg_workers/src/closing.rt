@@ -45,7 +45,8 @@ fn part<A: Allocator + Copy, C: Drop, Q: BlockSearch<Alloc = A, Scratch = C>>(
 }
 
 /// Closes a round all of whose numbers were drawn, as the seat of some worker tells: what was taken and what is left on
-/// the tray has the result of each of its blocks. All workers of the round are there, and none left a block unfinished.
+/// the tray has the result of each of its blocks. The board has a number for each block, and what was taken was taken
+/// from this tray. All workers of the round are there, and none left a block unfinished.
 /// Their scratches are added to those given, and fit the query as these do.
 ///
 /// # Errors

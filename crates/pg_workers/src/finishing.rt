@@ -28,12 +28,12 @@ fn finish_all<R: Wait, A: Allocator, C: Drop, Q: BlockSearch<Alloc = A, Scratch 
 }
 
 /// Searches all that is left of a round in this thread: the blocks that workers left unfinished, and, by the first
-/// worker, those whose numbers were not drawn. The board has a number for each block, and each may be searched. There is
-/// at least one worker, and each has worked for this round. At `Ok` no number is left, and no block unfinished.
+/// worker, those whose numbers were not drawn. The board has a number for each block, and each may be searched. There
+/// is at least one worker, and each has worked for this round. At `Ok` no number is left, and no block unfinished.
 ///
 /// # Errors
 ///
-/// Only where a request for memory was refused. What was put until then is the results of blocks.
+/// Only where a request for memory was refused. Nothing is said of the workers then.
 pub fn search_rest<R: Wait, A: Allocator, C: Drop, Q: BlockSearch<Alloc = A, Scratch = C>>(
     rt: &R,
     round: Round<'_, Q, A>,

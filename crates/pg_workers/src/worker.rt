@@ -96,7 +96,9 @@ fn search_one<R: Wait, A: Allocator, C, Q: BlockSearch<Alloc = A, Scratch = C>>(
     }
 }
 
-/// Draws numbers until none is left, searches the block of each, and puts its result.
+/// Draws numbers until none is left, searches the block of each, and puts its result. The board has a number for each
+/// block, and each may be searched; the seat and the pass are of the round's board and tray, and the scratch was made
+/// for its query.
 ///
 /// # Errors
 ///

@@ -72,8 +72,8 @@ fn work_together<
 }
 
 /// Has the workers of a round search, the second one in this thread and those behind it in threads of their own; the
-/// first one is left to whoever takes the results. There are at least two, none of whom left a block unfinished, and
-/// each block may be searched. All are back when it returns.
+/// first one is left to whoever takes the results. There are at least two, none of whom left a block unfinished. The
+/// board has a number for each block, and each may be searched. All are back when it returns.
 ///
 /// A thread that can't be made is no fault: its worker comes back as it is, or searches here. A worker that is refused
 /// memory comes back with a block unfinished.

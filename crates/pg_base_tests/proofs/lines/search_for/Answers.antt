@@ -1,7 +1,7 @@
 use Rattle.std.proofs.Common.{List, ℕ, sym, subst}
 use Rattle.pg_blocks.specs.Lines.{AreShort}
 use Rattle.pg_selection.specs.Search.{terminator_of}
-use Rattle.pg_base_tests.proofs.LineLemmas.{lines_short}
+use Rattle.pg_blocks.proofs.WithinLemmas.{lines_short}
 use Rattle.pg_base_tests.proofs.lines.search_for.Goals as goal
 
 pub search_block-requires-clause-short : goal.search_block-requires-clause-short

@@ -2,7 +2,7 @@ use Rattle.std.proofs.Common.{◌≡◌, ◌+◌, ◌<◌, ◌≤◌, ◌^◌, �
 use Rattle.pg_match.proofs.StateSetLemmas.{few}
 use Rattle.pg_match.specs.Memories.{Grown, IsShape}
 use Rattle.pg_match.specs.Views.{nfa, members, remembered}
-use Rattle.pg_match.proofs.CacheLemmas.{memory_added}
+use Rattle.pg_match.proofs.CacheLemmas.{memory_added, visited}
 use Rattle.pg_match.proofs.automaton.Automaton.first.Goals as goal
 
 at_most : (v n : ℕ) → v ≤ v + n
@@ -10,9 +10,6 @@ at_most v n = omega arith
 
 below_more : (v : ℕ) → v < 2 ^ 98 → v < 2 ^ 100
 below_more v small = omega arith
-
-visited : (old new len n : ℕ) → new ≡ old + len → len ≤ n → new ≤ old + n
-visited old new len n more fits = omega arith
 
 counted : (n m : ℕ) → n ≡ m + 1 → 1 ≤ n
 counted n m more = omega arith

@@ -1,20 +1,8 @@
 use Rattle.std.proofs.Common.{◌≡◌, ℕ, ◌+◌, ◌*◌, ◌^◌, ◌<◌, ◌≤◌, ◌∙◌, length, arith, refl}
 use Rattle.std.proofs.Math.Nat.{mul-le-mul_left}
 use Rattle.pg_match.proofs.AnchoredLemmas.{start_row_few}
-use Rattle.pg_match.proofs.CacheLemmas.{told_on, visits_after}
+use Rattle.pg_match.proofs.CacheLemmas.{told_on, within_most, within_room, visits_whole}
 use Rattle.pg_match.proofs.automaton.Automaton.study_from.Goals as goal
-
-most_small : (l n size : ℕ) → size ≡ n → l ≤ 2 ^ 30 → n < 2 ^ 64 → l * size < 2 ^ 98
-most_small l n size same short few = let less : size ≤ 2 ^ 64 = omega arith in omega (arith, mul-le-mul_left l less)
-
-within_most : (l n size v : ℕ) → size ≡ n → l ≤ 2 ^ 30 → n < 2 ^ 64 → v ≤ l * size → v < 2 ^ 98
-within_most l n size v same short few le = let small = most_small l n size same short few in omega arith
-
-within_room : (l n size v : ℕ) → size ≡ n → l ≤ 2 ^ 30 → n < 2 ^ 64 → v ≤ l * size → v < 2 ^ 99
-within_room l n size v same short few le = let small = most_small l n size same short few in omega arith
-
-visits_whole : (l n size v w : ℕ) → size ≡ n → v ≤ l * size → w ≤ v + n → w ≤ (l + 1) * n
-visits_whole l n size v w same le more = visits_after l n size v w n same le more (omega arith)
 
 pub loop-memory-init : goal.loop-memory-init
 loop-memory-init g c = record {

@@ -2,7 +2,7 @@ use Rattle.std.proofs.Common.{◌≡◌, ◌∙◌, ◌++◌, ◌||◌, ◌<◌,
 use Rattle.std.proofs.Common.{append_assoc}
 use Rattle.std.proofs.lemmas.Bool.{MatchBool-at_true, MatchBool-at_false, or_right}
 use Rattle.std.proofs.lemmas.List.{append-nil}
-use Rattle.pg_base.proofs.WriteLemmas.{wrote_none, wrote_more}
+use Rattle.pg_base.proofs.WriteLemmas.{wrote_none, wrote_more, rises}
 use Rattle.pg_plan.specs.History.{Past}
 use Rattle.pg_seq.specs.declared.assembler.Assembler.{Assembler}
 use Rattle.pg_seq.specs.Standing.{IsAfter, wrote}
@@ -70,12 +70,10 @@ returns-in-Ok-false g c =
             subst P (sym (or-false past.failed)) r.stands,
           );
       cause = λ e. absurd (cc);
+      failed = λ e. absurd (cc);
       no_failure = none;
       never_falls = omega (arith, none);
     }
-
-rises : (before middle after : ℕ) → middle ≡ before → middle < after → before < after
-rises before middle after e h = omega arith
 
 pub returns-in-Err : goal.returns-in-Err
 returns-in-Err g c =
@@ -104,6 +102,7 @@ returns-in-Err g c =
                 (same_buffer _) refl (or_right past.failed true refl)),
           );
       cause = λ e. rise;
+      failed = λ e. absurd (cc);
       no_failure = tt;
       never_falls = omega (arith, rise);
     }

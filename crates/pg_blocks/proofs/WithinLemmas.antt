@@ -1,4 +1,4 @@
--- No line is longer than all bytes.
+-- No line is longer than all bytes. Serves whoever has few bytes, as tests have.
 use Rattle.std.proofs.Common.{ℕ, suc, ◌≤◌, ◌^◌, ◌==◌, true, false, cond, List, [], ◌∷◌, length, arith}
 use Rattle.std.specs.List.{AllByRecursion, onto_first}
 use Rattle.pg_blocks.specs.Lines.{lines}
