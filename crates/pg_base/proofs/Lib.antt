@@ -1,3 +1,4 @@
 pub mod SinkLemmas
 pub mod HistorySteps
 pub mod WriteLemmas
+pub mod PartLemmas

@@ -3,7 +3,7 @@ ghost use Rattle.std.specs.Prelude.{◌≡◌, ◌≤◌, ◌^◌, [], false, ma
 ghost use Rattle.std.specs.String.{string_bytes};
 ghost use Rattle.pg_grammar.specs.Slices.{bytes_of};
 ghost use Rattle.pg_walk.specs.Scopes.{scope_of};
-ghost use Rattle.pg_request.specs.Asked.{asked_of, has_names, input_name, scope_for, spares_output};
+ghost use Rattle.pg_request.specs.Asked.{asked_of, has_names, input_name, pace_of, scope_for, spares_output};
 ghost use Rattle.pg_command.specs.Answers.{AnswersSearch, Fails, IsSetup, Succeeds};
 ghost use Rattle.pg_request.specs.Reading.{contents_of};
 
@@ -205,6 +205,13 @@ fn setup_of(request: &Request<'_>, directory: bool) -> Setup
     } }
     ensures silent { result.silent ≡ request.now.silent }
     ensures line { result.line ≡ 2 ^ 30 }
+    ensures pace { pace_of request.now ≡ record {
+      workers = result.workers;
+      block = result.block;
+      round = result.round;
+      line_buffered = result.line_buffered;
+      always_spread = result.always_spread;
+    } }
 {
     let names = match request.names {
         Naming::Always => true,

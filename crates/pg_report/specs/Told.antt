@@ -4,7 +4,7 @@ use Rattle.std.specs.Fmt.{decimal}
 use Rattle.pg_grammar.specs.FaultTexts.{kind_text}
 use Rattle.pg_grammar.specs.declared.fault.ListFault.{ListFault}
 use Rattle.pg_base.specs.Sink.{Stream, WritesAll, WritesPart}
-use Rattle.pg_run.specs.Told.{fault_line as file_line}
+use Rattle.pg_base.specs.Causes.{fault_line as file_line}
 use Rattle.pg_words.specs.Usage.{usage_text}
 use Rattle.pg_report.specs.Shown.{shown_lines, shown_text}
 use Rattle.pg_request.specs.declared.fault.Fault.{Fault}

@@ -2,17 +2,16 @@
 ghost use Rattle.std.specs.Prelude.{◌≡◌, ◌++◌, ◌≤◌, codes};
 ghost use Rattle.std.specs.List.{flat_map};
 ghost use Rattle.pg_grammar.specs.Slices.{bytes_of};
-ghost use Rattle.pg_run.specs.Told.{fault_line as file_line};
+ghost use Rattle.pg_base.specs.Causes.{fault_line as file_line};
 ghost use Rattle.pg_report.specs.Shown.{shown_lines, shown_text};
 ghost use Rattle.pg_report.specs.Told.{IsPlain, TellsFault, TellsOfSearch, TellsText, line_of, lines_of_pattern};
 ghost use Rattle.pg_report.specs.Told.{pattern_line, plain_line};
 
 use crate::shown::{advice, blanks, byte_at, shown_text};
 use itoa::Buffer;
-use pg_base::{Cause, Sink};
+use pg_base::{Cause, Sink, tell, tell_cause};
 use pg_grammar::{ListFault, SyntaxFault};
 use pg_request::Fault;
-use pg_run::tell;
 use std::alloc::Global;
 
 /// The status of a run that met a fault.
@@ -81,15 +80,7 @@ pub fn tell_parts<W: Sink>(alloc: Global, parts: &[&[u8]], err: &mut W)
 fn tell_file<W: Sink>(alloc: Global, name: &str, cause: Cause, err: &mut W)
     ensures { TellsText (file_line name.now cause) (W.stream err.old) (W.stream err.new) }
 {
-    tell_parts(alloc, &file_parts(name, cause.text()), err);
-}
-
-/// The parts of the line of a file's fault, in their order.
-fn file_parts<'a>(name: &'a str, text: &'a str) -> [&'a [u8]; 5]
-    ensures { flat_map (λ part. part.now) result
-        ≡ codes "pargrep: " ++ name.now ++ codes ": " ++ text.now ++ codes "\n" }
-{
-    [b"pargrep: ", name.as_bytes(), b": ", text.as_bytes(), b"\n"]
+    let _ = tell_cause(alloc, name.as_bytes(), cause, err);
 }
 
 /// Writes the line of a pattern's fault, with the number of the pattern and the offset of the fault.

@@ -1,5 +1,5 @@
 -- What is searched for where a search is asked for, and when rows have names.
-pub use Rattle.pg_words.specs.Asked.{Asked, asked_of}
+pub use Rattle.pg_words.specs.Asked.{Asked, Pace, asked_of, pace_of}
 use Rattle.std.specs.Prelude.{ℕ, ◌==◌, Bool, true, false, not, ◌&&◌, ◌||◌, if◌then◌else◌, List, [], ◌∷◌, map, ◌++◌}
 use Rattle.std.specs.Prelude.{unwrap_or, Option, Some, None}
 use Rattle.pg_glob.specs.Filters.{Rule}
@@ -31,6 +31,10 @@ is_colored OnTerminal terminal = terminal
 abbrev pub asked_on : (terminal : Bool) → Asked → Asked
 asked_on terminal asked =
     record asked { format = record asked.format { colored = is_colored asked.coloring terminal } }
+
+-- and that rows are sent on there as soon as they are found
+abbrev pub paced_on : (terminal : Bool) → Pace → Pace
+paced_on terminal pace = record pace { line_buffered = pace.line_buffered || terminal }
 
 -- the matched parts of lines are wanted: with -o, and where those of selected lines are colored
 abbrev pub wants_parts : Asked → Bool

@@ -9,7 +9,8 @@ use Rattle.pg_rows.specs.Output.{when}
 use Rattle.pg_files.specs.Given.{Given, NoFile, File, entries_given, files_given, gave_bytes, gave_end, newest_name}
 use Rattle.pg_files.specs.Asking.{read_given}
 use Rattle.pg_run.specs.Lengths.{IsTooLong}
-use Rattle.pg_run.specs.Told.{faults_of, fault_line}
+use Rattle.pg_run.specs.Told.{faults_of}
+use Rattle.pg_base.specs.Causes.{fault_line}
 
 pub files_more : (more : List ℕ) (given : List Given) → files_given (gave_bytes more given) ≡ files_given given
 files_more more [] = refl

@@ -25,7 +25,8 @@ use Rattle.pg_plan.specs.Plan.{Step, Announces, Ends, entries_of}
 use Rattle.pg_plan.proofs.CursorLemmas.{joined_push}
 use Rattle.pg_files.specs.Given.{Given, FilesPast, entries_given, files_given, gave_bytes, gave_end, newest_name}
 use Rattle.pg_run.specs.Lengths.{IsTooLong}
-use Rattle.pg_run.specs.Told.{AddsFailure, faults_of, fault_line}
+use Rattle.pg_run.specs.Told.{AddsFailure, faults_of}
+use Rattle.pg_base.specs.Causes.{fault_line}
 use Rattle.pg_run.specs.Faults.{fault_of_cut}
 use Rattle.pg_run.specs.Outcome.{IsContinuation, GotWholeLines, IsOfAFile, NoneFailed}
 use Rattle.pg_run.specs.Cover.{is_left, HasOpenFile}

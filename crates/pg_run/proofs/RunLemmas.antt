@@ -21,7 +21,8 @@ use Rattle.pg_base.proofs.WriteLemmas.{wrote_none}
 use Rattle.pg_plan.specs.Plan.{Step, Opens, Announces, Ends, Misses, IsShaped, is_open, entries_of, with_end}
 use Rattle.pg_plan.proofs.BeginLemmas.{begins_trans}
 use Rattle.pg_files.specs.Given.{Given, NoFile, File, FilesPast, entries_given, newest_name, nothing_given}
-use Rattle.pg_run.specs.Told.{AddsFailure, faults_of, fault_of, fault_line, told_of}
+use Rattle.pg_run.specs.Told.{AddsFailure, faults_of, fault_of, told_of}
+use Rattle.pg_base.specs.Causes.{fault_line}
 use Rattle.pg_run.specs.Outcome.{AreReadRightly, EndsAtSelected, RunFinishes, BreaksOff, HasCause, GotWholeLines}
 use Rattle.pg_run.specs.Holding.{Aim, HasPlan, BreaksOffInSearch, AllIsWritten, IsFinished, IsWrittenFirst}
 use Rattle.pg_run.specs.Holding.{format_of, output_of}

@@ -1,14 +1,10 @@
 -- The lines that are told of files.
-use Rattle.std.specs.Prelude.{◌≡◌, ℕ, Bool, not, List, [], ◌∷◌, ◌++◌, codes}
-use Rattle.pg_base.specs.Causes.{cause_text}
-use Rattle.pg_base.specs.declared.cause.Cause.{Cause}
+use Rattle.std.specs.Prelude.{◌≡◌, ℕ, Bool, not, List, [], ◌∷◌, ◌++◌}
+use Rattle.pg_base.specs.Causes.{fault_line}
 use Rattle.pg_base.specs.declared.cause.Cause.TheVariants.{ReadFailed}
 use Rattle.pg_base.specs.Entries.{is_failed}
 use Rattle.pg_rows.specs.Output.{when}
 use Rattle.pg_files.specs.Given.{Given, NoFile, File, newest_name}
-
-abbrev pub fault_line : List ℕ → Cause → List ℕ
-fault_line name cause = codes "pargrep: " ++ name ++ codes ": " ++ cause_text cause ++ codes "\n"
 
 -- a name that gives no file has a line, and so has a file whose reading failed
 abbrev pub fault_of : Given → List ℕ

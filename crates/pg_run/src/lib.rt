@@ -14,7 +14,6 @@ mod reading;
 mod room;
 mod running;
 mod setup;
-mod telling;
 
 pub use fault::RunFault;
 pub use pg_base::{MemSink, Out, Sink};
@@ -25,4 +24,3 @@ pub use pg_selection::Selector;
 pub use room::has_room_for;
 pub use running::run;
 pub use setup::Setup;
-pub use telling::tell;

@@ -1,14 +1,13 @@
 //! The run over all files.
-ghost use Rattle.std.specs.Prelude.{◌≡◌, ◌-◌, ◌^◌, ◌<◌, ◌∷◌, ◌++◌, List, [], not, false};
+ghost use Rattle.std.specs.Prelude.{◌≡◌, ◌-◌, ◌^◌, ◌<◌, ◌∷◌, List, [], not, false};
 ghost use Rattle.std.specs.Prelude.{IfOk, MatchResult, OnOk, IfErr, OnErr};
 ghost use Rattle.std.specs.Arc.{arc_value};
-ghost use Rattle.std.specs.List.{flat_map};
 ghost use Rattle.pg_selection.specs.Search.{Search};
 ghost use Rattle.pg_base.specs.Entries.{Left};
 ghost use Rattle.pg_rows.specs.Output.{when};
 ghost use Rattle.pg_base.specs.Sink.{Stream, WritesText};
 ghost use Rattle.pg_files.specs.Given.{Given, NoFile, File, nothing_given};
-ghost use Rattle.pg_run.specs.Told.{fault_line};
+ghost use Rattle.pg_base.specs.Causes.{fault_line};
 ghost use Rattle.pg_run.specs.Outcome.{IsSearchFor, RunFinishes, BreaksOff};
 ghost use Rattle.pg_run.specs.Searches.{FindsLines};
 ghost use Rattle.pg_run.specs.Holding.{Aim};
@@ -22,8 +21,7 @@ use crate::fault::RunFault;
 use crate::reader::FileReader;
 use crate::reading::read_file;
 use crate::setup::Setup;
-use crate::telling::tell;
-use pg_base::{Cause, Sink, WriteError};
+use pg_base::{Cause, Sink, WriteError, tell_cause};
 use pg_files::{Files, Step};
 use pg_round::BlockSearch;
 use pg_selection::Selector;
@@ -35,20 +33,7 @@ use std::time::Clock;
 /// So many files get a number.
 const MOST_FILES: u32 = u32::MAX;
 
-/// The parts of a fault line, in their order.
-fn line_of<'a>(
-    program: &'a [u8],
-    name: &'a [u8],
-    mark: &'a [u8],
-    cause: &'a [u8],
-    end: &'a [u8],
-) -> [&'a [u8]; 5]
-    ensures { flat_map (λ part. part.now) result ≡ program.now ++ name.now ++ mark.now ++ cause.now ++ end.now }
-{
-    [program, name, mark, cause, end]
-}
-
-/// Tells why a name gives no file, or that its reading failed.
+/// Tells why a name gives no file, or that its reading failed, unless the run is silent.
 fn tell_fault<A: Allocator + Copy, E: Sink>(
     alloc: A,
     silent: bool,
@@ -63,14 +48,7 @@ fn tell_fault<A: Allocator + Copy, E: Sink>(
     if silent {
         return Ok(());
     }
-    let parts = line_of(
-        "pargrep: ".as_bytes(),
-        name,
-        ": ".as_bytes(),
-        cause.text().as_bytes(),
-        "\n".as_bytes(),
-    );
-    match tell(alloc, &parts, faults) {
+    match tell_cause(alloc, name, cause, faults) {
         Ok(()) => Ok(()),
         Err(WriteError) => Err(RunFault::Sink),
     }
@@ -255,10 +233,10 @@ fn search_files<
 
 /// Searches files one after the other, as far as that is needed, and writes what the setup's format asks for to `out`:
 /// of the lines that the selector selects, which the query finds in each block whose lines have at most 2^30 bytes.
-/// `faults` gets a line for each name that gives no file and each file whose reading failed, at once; the others go on.
-/// The answer is the exit status: 0 where a line was selected, 1 where none was, and 2 where a name was missed or a
-/// reading failed; but with -q 0 where a line was selected. Nothing was asked of the files yet, and at the end all that
-/// they list was given.
+/// Unless the setup is silent, `faults` gets a line for each name that gives no file and each file whose reading failed,
+/// at once; the others go on. The answer is the exit status: 0 where a line was selected, 1 where none was, and 2 where
+/// a name was missed or a reading failed; but with -q 0 where a line was selected. Nothing was asked of the files yet,
+/// and at the end all that they list was given, or with -q a line was selected.
 ///
 /// A file isn't read further, and with -q no further one is asked for, once nothing that stands behind
 /// changes what is written. Not more of a file is held than two rounds of blocks and what one read gives.

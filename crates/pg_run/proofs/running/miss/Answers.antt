@@ -1,6 +1,6 @@
 use Rattle.std.proofs.Common.{◌∷◌, ap, refl, subst, sym}
 use Rattle.pg_files.specs.Given.{NoFile}
-use Rattle.pg_run.specs.Told.{fault_line}
+use Rattle.pg_base.specs.Causes.{fault_line}
 use Rattle.pg_run.specs.Reading.{BreaksOffTold}
 use Rattle.pg_run.proofs.HoldLemmas.{fails_by}
 use Rattle.pg_run.proofs.RunLemmas.{told_by, stops_telling, stops_reading, stops_memory, rows_sent}

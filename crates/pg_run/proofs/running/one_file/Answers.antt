@@ -2,7 +2,8 @@ use Rattle.std.proofs.Common.{◌≡◌, ◌∙◌, List, [], ◌∷◌, ◌++�
 use Rattle.pg_base.specs.declared.cause.Cause.TheVariants.{ReadFailed}
 use Rattle.pg_base.specs.Entries.{Left}
 use Rattle.pg_files.specs.Given.{Given, File}
-use Rattle.pg_run.specs.Told.{fault_line, faults_of}
+use Rattle.pg_run.specs.Told.{faults_of}
+use Rattle.pg_base.specs.Causes.{fault_line}
 use Rattle.pg_run.specs.Reading.{BreaksOffTold}
 use Rattle.pg_run.specs.declared.fault.RunFault.TheVariants.{OutOfMemory}
 use Rattle.pg_run.proofs.HoldLemmas.{fails_by}

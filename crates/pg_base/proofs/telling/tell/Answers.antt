@@ -1,7 +1,7 @@
 use Rattle.std.proofs.Common.{◌∙◌}
 use Rattle.std.specs.List.{flat_map}
 use Rattle.pg_base.proofs.WriteLemmas.{writes_as}
-use Rattle.pg_run.proofs.telling.tell.Goals as goal
+use Rattle.pg_base.proofs.telling.tell.Goals as goal
 
 pub returns-in-Ok : goal.returns-in-Ok
 returns-in-Ok g c =

@@ -2,8 +2,8 @@ use Rattle.std.proofs.Common.{ap}
 use Rattle.std.proofs.lemmas.List.{drop_all}
 use Rattle.std.specs.List.{flat_map}
 use Rattle.pg_base.proofs.WriteLemmas.{writes_part, left_none, left_whole}
-use Rattle.pg_run.proofs.ToldLemmas.{left_of_parts, part_of_parts}
-use Rattle.pg_run.proofs.telling.write_each.Goals as goal
+use Rattle.pg_base.proofs.PartLemmas.{left_of_parts, part_of_parts}
+use Rattle.pg_base.proofs.telling.write_each.Goals as goal
 
 pub loop-part-init : goal.loop-part-init
 loop-part-init g c = left_whole (flat_map (λ part. part.now) c.args.parts.now) (g.W.Sink.stream c.args.err.now)

@@ -1,7 +1,7 @@
 use Rattle.std.proofs.Common.{drop}
 use Rattle.std.specs.List.{flat_map}
 use Rattle.pg_base.proofs.WriteLemmas.{WritesAllBut}
-use Rattle.pg_run.proofs.telling.write_each.Given as goal
+use Rattle.pg_base.proofs.telling.write_each.Given as goal
 
 -- the parts from the index on are left to write
 abbrev pub invariant-loop-part : goal.invariant-loop-part
