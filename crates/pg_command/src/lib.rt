@@ -9,7 +9,7 @@ mod program;
 mod search;
 mod words;
 
-pub use pg_report::{FAULT_STATUS, report};
+pub use pg_report::report;
 pub use pg_request::Fault;
 pub use program::{command, run};
 pub use search::{Told, answer};

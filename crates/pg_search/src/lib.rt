@@ -12,8 +12,5 @@ mod running;
 pub use fault::SearchFault;
 pub use gate::{FreeGate, Gate};
 pub use gated::GatedQuery;
-pub use pg_base::{MemSink, Sink};
-pub use pg_files::{Files, MemFiles};
 pub use pg_run::{RunFault, Setup};
-pub use pg_selection::QueryText;
 pub use running::run;
