@@ -10,7 +10,7 @@ use Rattle.pg_plan.specs.Drains.{Drained, drained, IsSafe}
 use Rattle.pg_plan.specs.declared.answers.SinkFault.{SinkFault}
 use Rattle.pg_plan.specs.declared.answers.SinkFault.TheVariants.{WriteFailed, Failed}
 use Rattle.pg_plan.proofs.BeginLemmas.{begins_trans}
-use Rattle.pg_round.specs.Receipts.{HasFailed, HasWritten, Takes}
+use Rattle.pg_round.specs.Receipts.{WroteSafely, HasWritten, Takes}
 use Rattle.pg_round.specs.declared.fault.RoundFault.TheVariants.{Sink}
 
 or_false : (b : Bool) → (b || false) ≡ b
@@ -38,7 +38,7 @@ drain_ok last past before after safe t = (
 
 drain_failed : (last : Past → Type 0) (past : Past) (f : SinkFault) (before after : List ℕ) (m m' : ℕ)
     → past.failed ≡ false → IsSafe past (handed past) → (IsErrOf {T = Unit {0}} (Err f) WriteFailed → m < m')
-    → Told last past (Err f) before after → HasFailed past before after × (m < m')
+    → Told last past (Err f) before after → WroteSafely past before after × (m < m')
 drain_failed last past WriteFailed before after m m' n safe cause t = (
   (
     t.0,

@@ -7,7 +7,7 @@ use Rattle.pg_base.specs.Sink.{Stream, IsBeginning}
 use Rattle.pg_plan.specs.Plan.{Step, entries_of}
 use Rattle.pg_plan.specs.History.{Past, Event, Arrived, plan_of, handed, arrived}
 use Rattle.pg_board.specs.Merge.{IsMerge}
-use Rattle.pg_round.specs.Receipts.{arrivals, received, HasReceived, HasFailed, HasWritten}
+use Rattle.pg_round.specs.Receipts.{arrivals, received, HasReceived, WroteSafely, HasWritten}
 use Rattle.pg_plan.specs.Drains.{IsSafe}
 use Rattle.pg_round.specs.Receipts.{HasDelivered, HasRound, Takes}
 use Rattle.pg_workers.specs.Results.{HasAll}
@@ -57,7 +57,7 @@ module _ (mid : Past → Type 0) (past : Past) (rs : List Searched) (before betw
   abbrev next : Past
   next = received past rs first.0
 
-  fails_then : HasFailed next between after → HasFailed past before after
+  fails_then : WroteSafely next between after → WroteSafely past before after
   fails_then h = (
     first.0 ++ h.0,
     (join_text before between after first.0 h.0 first.1.0 h.1.0, join_safe past rs first.0 h.0 h.1.1),

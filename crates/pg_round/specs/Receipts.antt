@@ -24,8 +24,8 @@ abbrev pub Wrote : Past → List ℕ → List ℕ → List ℕ → Type 0
 Wrote past before after text = (after ≡ before ++ text) × IsSafe past (past.written ++ text)
 
 -- something was written, and all that was written is safe
-abbrev pub HasFailed : Past → List ℕ → List ℕ → Type 0
-HasFailed past before after = (text : List ℕ) × Wrote past before after text
+abbrev pub WroteSafely : Past → List ℕ → List ℕ → Type 0
+WroteSafely past before after = (text : List ℕ) × Wrote past before after text
 
 -- a collector, by what it stands after, received these results, and wrote something safe
 abbrev pub HasReceived : (Past → Type 0) → List Searched → Past → List ℕ → List ℕ → Type 0
@@ -67,4 +67,4 @@ pub record Takes {T : Type 0} (result : Result T RoundFault) (stands : Past → 
   pub calm : MatchResult result (λ _. after.failures ≡ before.failures) (λ fault. NoOtherFailed fault before after)
   pub outcome : (past : Past) → stands past → past.failed ≡ false → IsSafe past past.written →
       MatchResult result (λ _. took past before.taken after.taken)
-      (λ fault. HasFailed past before.taken after.taken × FailedBy fault before after)
+      (λ fault. WroteSafely past before.taken after.taken × FailedBy fault before after)

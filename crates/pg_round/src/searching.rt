@@ -85,8 +85,11 @@ fn search_beside<
 /// Whenever no result is there to be taken, the reader makes a step in the calling thread, until all workers are seen
 /// to have ended. In a round without workers it makes none.
 ///
-/// The round has at most 1,024 blocks, which `query` searches and may search. The scratches fit it. At `Ok` they are
-/// there again, in any order.
+/// The round has at most 1,024 blocks, which `query` searches and may search. The scratches fit it. The collector sees
+/// a result as it is, and the reader may make a step. At `Ok` the scratches are there again, in any order.
+///
+/// What is said of what was written holds where no drain of the collector failed before, and what it wrote is a
+/// beginning of what the plan gives. Nothing is said of the collector at `Err`.
 ///
 /// # Errors
 ///

@@ -29,7 +29,7 @@ use Rattle.pg_run.specs.Holding.{SearchesFor, output_of, waiting}
 use Rattle.pg_workers.specs.Results.{HasResult, HasAll}
 use Rattle.pg_workers.specs.Searches.{SearchView}
 use Rattle.pg_run.specs.Searches.{FindsLines}
-use Rattle.pg_round.specs.Receipts.{arrivals, HasRound, HasFailed, FailedBy, NoOtherFailed}
+use Rattle.pg_round.specs.Receipts.{arrivals, HasRound, WroteSafely, FailedBy, NoOtherFailed}
 use Rattle.pg_plan.specs.Drains.{IsSafe}
 use Rattle.pg_workers.specs.declared.block_search.BlockSearch.{Ghosts}
 use Rattle.pg_run.specs.declared.engine.Engine.{Engine}
@@ -267,7 +267,7 @@ module _ {A Q C : Type 0} {asks : Ghosts Q A C} {engine : Engine A Q C asks} {ai
     )
 
   -- or failed
-  pub round_failed : (out' : Stream) (fault : RoundFault) → HasFailed past out.taken out'.taken
+  pub round_failed : (out' : Stream) (fault : RoundFault) → WroteSafely past out.taken out'.taken
       → FailedBy fault out out' → NoOtherFailed fault out out'
       → BreaksOffInSearch aim steps out' (fault_of_round fault)
   round_failed out' fault f failed calm = record {
