@@ -1,6 +1,6 @@
 -- The rows of matched parts.
 use Rattle.std.proofs.Common.{◌≡◌, ℕ, zero, suc, ◌+◌, ◌-◌, ◌<◌, ◌≤◌, inl, inr, Bool, true, false, cond, nat_lt}
-use Rattle.std.proofs.Common.{Option, Some, None, List, []}
+use Rattle.std.proofs.Common.{Option, Some, None, List, [], if◌then◌else◌}
 use Rattle.std.proofs.Common.{◌∷◌, ◌++◌, length, take, drop, slice_range, map, refl, sym, ap, ◌∙◌, subst, arith}
 use Rattle.std.proofs.Common.{append_assoc, length-append, length-drop, get_or, option_map}
 use Rattle.std.specs.List.{AllByRecursion, flat_map, filter}
