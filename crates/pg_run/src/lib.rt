@@ -9,7 +9,6 @@ mod engine;
 mod fault;
 pub mod laws;
 mod pace;
-mod reader;
 mod reading;
 mod room;
 mod running;
