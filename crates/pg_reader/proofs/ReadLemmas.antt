@@ -1,4 +1,5 @@
--- What the reads of an open file come to: for `read_copied`, `read_in_place`, `read` and `step`.
+-- What the reads of an open file come to: for `read_copied`, `read_in_place`, `read`, `finish` and `step`, and for
+-- those who call them.
 use Rattle.std.proofs.Common.{◌≡◌, ◌⊎◌, inl, inr, ℕ, ◌+◌, ◌<◌, ◌^◌, Bool, List, [], ◌∷◌, ◌++◌, length, drop}
 use Rattle.std.proofs.Common.{if◌then◌else◌, refl, sym, ap, ◌∙◌, subst, arith, append_assoc, length-append}
 use Rattle.std.specs.List.{Any}
@@ -86,7 +87,7 @@ module _ {A : Type 0} {reader : FileReader A} {fed : Fed} {lost : List ℕ} {giv
   long_cause piece FileTooLong line file =
       is_long piece (inr (omega (arith, file refl, length-append fed.bytes piece)))
 
-  -- the same file stands so now, by what was fed and what was lost
+  -- it stands so now, by what was fed of it and what was lost
   fed_more : (reader' : FileReader A) (given' : List Given) (piece lost' : List ℕ)
       → IsCutterAfter reader'.cutter (fed_after fed piece)
       → given'

@@ -129,7 +129,7 @@ impl<A: Allocator + Copy> FileReader<A> {
         self.came
     }
 
-    /// So many more reads may be made beside a search.
+    /// So many more reads may be made beside a search, each by a step.
     pub fn read_ahead(&mut self, reads: u32)
         ensures cutter { self.new.cutter ≡ self.old.cutter }
         ensures came { self.new.came ≡ self.old.came }
@@ -220,8 +220,8 @@ impl<A: Allocator + Copy> FileReader<A> {
         self.cutter.take()
     }
 
-    /// The whole lines that came and are in no block yet, as a block. Where memory for it is refused, they stay for a
-    /// later one. `take` has answered `None` since the last read.
+    /// The whole lines that came and are in no block yet, as a block, if there are any. Where memory for it is refused,
+    /// they stay for a later one. `take` has answered `None` since the last read.
     pub fn take_lines(&mut self) -> Option<Block<A>>
         requires { IsDrained self.old.cutter }
         ensures came { self.new.came ≡ self.old.came }
@@ -237,7 +237,8 @@ impl<A: Allocator + Copy> FileReader<A> {
         }
     }
 
-    /// The last block of a file that can't go on. `take` has answered `None` since the last read.
+    /// The last block of a file that can't go on, if there is one. `take` has answered `None` since the last read. The
+    /// reader has no file then until another is opened.
     pub fn finish(&mut self) -> Option<Block<A>>
         requires { IsDrained self.old.cutter }
         ensures { (past : Fed) → IsCutterAfter self.old.cutter past → AreAllBlocks (handed past result) }
@@ -259,7 +260,7 @@ impl<A: Allocator + Copy, F: Files> Reader<F> for FileReader<A> {
             return false;
         }
         if self.make_room().is_err() {
-            // There may be memory once the round's threads have ended.
+            // There may be memory once the threads that search have ended.
             self.ahead = 0;
             return false;
         }

@@ -36,7 +36,7 @@ newest_entry [] name bytes ending before e = absurd (cc)
 newest_entry (NoFile n cause ∷ given) name bytes ending before e = absurd (cc)
 newest_entry (File n bs was ∷ given) name bytes ending before e = (cc, cc)
 
--- a file's bytes are those that it has
+-- the same file has the same bytes
 pub same_bytes : (name name' bytes bytes' : List ℕ) (ending ending' : Ending) (before before' : List Given)
     → File name bytes ending ∷ before ≡ File name' bytes' ending' ∷ before' → bytes ≡ bytes'
 same_bytes name name' bytes bytes' ending ending' before before' e = cc

@@ -118,7 +118,7 @@ none_lost Failure failed end longest given lost e h = h
 none_lost (Refused fault) true end longest given lost e h = absurd (cc)
 none_lost (Refused fault) false end longest given lost e h = absurd (cc)
 
--- a file that was read isn't one of a plan
+-- after a read a file isn't `Running`, as a plan's is
 none_runs : (came : ReadOutcome) → is_running (ending_after came) ≡ false
 none_runs More = refl
 none_runs End = refl
@@ -447,8 +447,7 @@ module _ {A : Type 0} {reader : FileReader A} {aim : Aim} {given : List Given} {
       let none : h.lost ≡ [] = subst L more h.cause in
       sym (append-nil h.fed.bytes) ∙ (ap (λ xs. h.fed.bytes ++ xs) (sym none) ∙ h.whole)
 
--- The reader read on.
-
+-- its cutter was fed all that was read but what was lost
 pub has_fed : {A : Type 0} {reader : FileReader A} {aim : Aim} {given : List Given} {steps : List Step}
     (h : HasCut reader aim given steps) → HasFed reader h.fed h.lost given
 has_fed {reader = reader} {aim = aim} {given = given} h =
@@ -464,6 +463,7 @@ has_fed {reader = reader} {aim = aim} {given = given} h =
           (subst (L (terminator aim.query)) (sym h.longest) h.cause);
     }
 
+-- The reader read on, and no block was taken.
 module _ {A : Type 0} {reader reader' : FileReader A} {aim : Aim} {given given' : List Given} {steps : List Step}
     (h : HasCut reader aim given steps) (on : FedMore reader h.fed given reader' given')
     (before : drop 1 given' ≡ drop 1 given) where
@@ -521,6 +521,7 @@ module _ {A : Type 0} {reader reader' : FileReader A} {aim : Aim} {given given' 
       go (inl more) = more_cut more
       go (inr same) = none_cut same.0 same.1
 
+-- what was cut is cut
 pub cuts_on : {A F L : Type 0} {past : F → FilesPast} {list : F → L} {reader reader' : FileReader A}
     {files files' : F} {aim : Aim} {steps : List Step} → HasCut reader aim (past files).given steps
     → HasReadOn past list reader files reader' files' → HasCut reader' aim (past files').given steps
