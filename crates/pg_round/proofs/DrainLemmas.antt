@@ -12,10 +12,7 @@ use Rattle.pg_plan.specs.declared.answers.SinkFault.TheVariants.{WriteFailed, Fa
 use Rattle.pg_plan.proofs.BeginLemmas.{begins_trans}
 use Rattle.pg_round.specs.Receipts.{WroteSafely, HasWritten, Takes}
 use Rattle.pg_round.specs.declared.fault.RoundFault.TheVariants.{Sink}
-
-or_false : (b : Bool) → (b || false) ≡ b
-or_false true = refl
-or_false false = refl
+use Rattle.std.proofs.Math.Bool.{or-false}
 
 -- what a drain tells
 abbrev pub Told : (Past → Type 0) → Past → Result (Unit {0}) SinkFault → List ℕ → List ℕ → Type 0
@@ -32,7 +29,7 @@ drain_ok : (last : Past → Type 0) (past : Past) (before after : List ℕ) → 
 drain_ok last past before after safe t = (
   t.0,
   (t.1, subst (λ (l : List ℕ). IsSafe past l) (sym t.2.1) safe),
-  subst (λ (f : Bool). last (record past { written = past.written ++ t.0; failed = f })) (or_false past.failed) t.3,
+  subst (λ (f : Bool). last (record past { written = past.written ++ t.0; failed = f })) (or-false past.failed) t.3,
   t.2.1,
 )
 

@@ -1,3 +1,2 @@
 pub mod DrainLemmas
-pub mod ReadingLemmas
 pub mod ReceiptLemmas

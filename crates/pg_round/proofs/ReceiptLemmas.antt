@@ -14,7 +14,7 @@ use Rattle.pg_workers.specs.Results.{HasAll}
 use Rattle.pg_round.specs.declared.fault.RoundFault.{RoundFault}
 use Rattle.pg_round.specs.declared.fault.RoundFault.TheVariants.{OutOfMemory, Sink}
 
-plan_kept : (rs : List Searched) (es : List Event) → plan_of (arrivals rs es) ≡ plan_of es
+pub plan_kept : (rs : List Searched) (es : List Event) → plan_of (arrivals rs es) ≡ plan_of es
 plan_kept [] es = refl
 plan_kept (r ∷ rs) es = plan_kept rs (Arrived r ∷ es)
 

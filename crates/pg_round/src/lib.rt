@@ -5,17 +5,15 @@
 //! [`Collector`], which puts them in order, and has it write what may be handed out. [`search_round`] ensures that the
 //! collector gets the result of each block, whatever the order in which the threads run, also where fewer threads can
 //! be made than were asked for, or none, and where threads are refused memory. Where no result lies on the tray, the
-//! calling thread has a [`Reader`] go on.
+//! calling thread has a [`pg_reader::Reader`] go on.
 #![tactic(auto)]
 
 mod fault;
-mod reader;
 mod receiving;
 mod searching;
 mod streaming;
 
 pub use fault::RoundFault;
 pub use pg_plan::Collector;
-pub use pg_workers::{BlockSearch, Round, Unfinished, work};
-pub use reader::{NothingToRead, Reader};
+pub use pg_workers::BlockSearch;
 pub use searching::search_round;

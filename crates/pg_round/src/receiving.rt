@@ -1,15 +1,15 @@
 //! What the calling thread does with the results of a round.
 ghost use Rattle.std.specs.Prelude.{◌≡◌, ◌∷◌, [], IfErr};
 ghost use Rattle.pg_selection.specs.Searched.{Searched};
-ghost use Rattle.pg_round.specs.Reading.{HasGoneOn};
+ghost use Rattle.pg_reader.specs.Going.{HasGoneOn};
 ghost use Rattle.pg_round.specs.Receipts.{HasDelivered, HasReceived, Takes};
 ghost use Rattle.pg_round.specs.declared.fault.RoundFault.TheVariants.{Sink as SinkFailed};
 
 use crate::fault::RoundFault;
-use crate::reader::Reader;
 use pg_base::Sink;
 use pg_board::{Delivered, TakePass, Tray};
 use pg_plan::Collector;
+use pg_reader::Reader;
 use pg_selection::BlockResult;
 use pg_workers::Signs;
 use std::alloc::Allocator;

@@ -2,17 +2,17 @@
 ghost use Rattle.std.specs.Prelude.{◌≡◌, ◌+◌, ◌<◌, ◌≤◌, [], All, vec_len, length, IfOk, OnOk};
 ghost use Rattle.pg_selection.specs.Searched.{Searched};
 ghost use Rattle.pg_workers.specs.Workers.{task_of, IsReady, HasFinished, AreBack};
-ghost use Rattle.pg_round.specs.Reading.{HasGoneOn};
+ghost use Rattle.pg_reader.specs.Going.{HasGoneOn};
 ghost use Rattle.pg_round.specs.Receipts.{HasReceived, HasRound, Takes};
 
 use crate::fault::RoundFault;
-use crate::reader::Reader;
 use crate::receiving::deliver;
 use crate::streaming::stream;
 use pg_base::Sink;
 use pg_blocks::Block;
 use pg_board::TakePass;
 use pg_plan::Collector;
+use pg_reader::Reader;
 use pg_selection::BlockResult;
 use pg_workers::{BlockSearch, Opened, Round, Worker, close_round, open_round, search_rest};
 use std::alloc::Allocator;

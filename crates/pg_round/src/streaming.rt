@@ -4,15 +4,15 @@ ghost use Rattle.pg_selection.specs.Searched.{Searched};
 ghost use Rattle.pg_workers.specs.Workers.{task_of, IsReady, HasFinished, AreBack};
 ghost use Rattle.pg_round.specs.Receipts.{HasReceived, Takes};
 ghost use Rattle.pg_round.specs.declared.fault.RoundFault.TheVariants.{Sink as SinkFailed};
-ghost use Rattle.pg_round.specs.Reading.{HasGoneOn};
+ghost use Rattle.pg_reader.specs.Going.{HasGoneOn};
 
 use crate::fault::RoundFault;
-use crate::reader::Reader;
 use crate::receiving::take_all;
 use pg_base::Sink;
 use pg_blocks::Block;
 use pg_board::{TakePass, Tray};
 use pg_plan::Collector;
+use pg_reader::Reader;
 use pg_selection::BlockResult;
 use pg_workers::{BlockSearch, Round, Signs, Worker, run_workers};
 use std::alloc::Allocator;

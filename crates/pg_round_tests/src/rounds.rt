@@ -7,7 +7,8 @@ use crate::fixtures::{Counting, Counts, Holding, Meeting, Stepping, blocks, quer
 use pg_base::MemSink;
 use pg_blocks::Block;
 use pg_lines::{Query, Scratch};
-use pg_round::{NothingToRead, Reader, RoundFault, search_round};
+use pg_reader::{NothingToRead, Reader};
+use pg_round::{RoundFault, search_round};
 use pg_search::{FreeGate, Gate, GatedQuery};
 use refusing::Refusing;
 use std::alloc::{AllocError, Allocator, Global};

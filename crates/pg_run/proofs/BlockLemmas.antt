@@ -11,6 +11,7 @@ use Rattle.pg_blocks.specs.Cutter.{HasLinesLeft, held}
 use Rattle.pg_blocks.specs.declared.cutter.Cutter.{Cutter}
 use Rattle.pg_blocks.proofs.LineLemmas.{lines-append, whole_append}
 use Rattle.pg_blocks.proofs.EarlyLemmas.{AllEnd, fed_end, fed_whole, all_are_cutting}
+use Rattle.pg_blocks.proofs.CutLaws.{ended_some}
 
 -- bytes that end with the terminator, or that nothing follows
 abbrev pub IsApart : ℕ → List ℕ → List ℕ → Type 0
@@ -51,9 +52,6 @@ pub record Gives (f : Fed) (b : BlockData) (more : List ℕ) : Type 0 where
   pub whole : f.bytes ≡ joined f.taken ++ (b.bytes ++ more)
   pub apart : IsApart f.end b.bytes more
 
-not_nothing : (end : ℕ) (xs : List ℕ) → EndsWith end xs → xs ≢ []
-not_nothing end xs h e = absurd (omega (arith, ap length (sym h.1 ∙ e), length-append h.0 (end ∷ [])))
-
 -- it does, and the block is whole lines
 abbrev pub GivesLines : Fed → BlockData → Type 0
 GivesLines f b = (more : List ℕ) × Gives f b more × AreWhole f.end b.bytes
@@ -66,7 +64,7 @@ gives_next f b n =
       joined later ++ n.cut.1,
       record {
         numbered = n.numbered;
-        some = not_nothing f.end b.bytes ends;
+        some = ended_some f.end b.bytes ends;
         whole =
             fed_whole f (f.taken ++ b ∷ later) n.cut.1 n.cut.2
             ∙ (joined_apart f.taken (b ∷ later) n.cut.1
@@ -82,7 +80,7 @@ gives_early f b h = (
   h.none.0,
   record {
     numbered = h.numbered;
-    some = not_nothing f.end b.bytes h.ends;
+    some = ended_some f.end b.bytes h.ends;
     whole =
         h.none.1
         ∙ (joined_apart f.taken (b ∷ []) h.none.0

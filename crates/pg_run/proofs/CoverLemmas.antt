@@ -20,8 +20,16 @@ use Rattle.pg_plan.proofs.BeginLemmas.{begins_trans}
 use Rattle.pg_rows.specs.Enough.{lines_suffice, is_enough}
 use Rattle.pg_seq.specs.Settled.{AreLeftRightly, GiveTheSame}
 use Rattle.pg_run.specs.Outcome.{MayBecome, IsContinuation}
-use Rattle.pg_run.specs.Cover.{is_left, IsLeftFile, IsEntryOf, Covers, PlanFollows}
+use Rattle.pg_run.specs.Cover.{is_left, IsLeftFile, IsEntryOf, Covers}
 use Rattle.pg_seq.proofs.LongerLemmas.{reason, rows_of_left, AreAlike, alike_same, alike_none, alike_more, alike_left}
+use Rattle.pg_run.specs.Cover.{HasOpenFile}
+
+-- no file is open, or one is
+abbrev pub PlanFollows : Search → Format → List Entry → List Entry → Type 0
+PlanFollows q format planned given =
+    Covers q format planned given
+    ⊎ ((name : List ℕ) × (front : List ℕ) × (rest : List ℕ) × (ending : Ending)
+    × HasOpenFile q format name front rest ending planned given)
 
 abbrev line_part : Search → Format → List ℕ → List (List ℕ) → Bool → List ℕ
 line_part q format name ls earlier =

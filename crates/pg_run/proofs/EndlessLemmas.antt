@@ -15,10 +15,7 @@ use Rattle.pg_rows.specs.declared.format.Format.{Format}
 use Rattle.pg_rows.specs.declared.format.Mode.{Mode}
 use Rattle.pg_rows.proofs.ModeLemmas.{settles_late_aloud}
 use Rattle.pg_run.specs.Endless.{is_endless}
-
-and_false : (t : Bool) → (t && false) ≡ false
-and_false true = refl
-and_false false = refl
+use Rattle.std.proofs.Math.Bool.{and-false}
 
 no_limit : (limit : Option ℕ) → not (is_some limit) ≡ true → limit ≡ None
 no_limit None e = refl
@@ -49,7 +46,7 @@ file_goes_on q format (Missed name ∷ entries) c e = refl
 file_goes_on q format (Read name bytes ending ∷ entries) c e =
     let ls = lines (terminator q) bytes in
     ap (λ t. is_running ending && t) (lines_go_on format.mode q format ls c (never_full q format ls e))
-    ∙ and_false (is_running ending)
+    ∙ and-false (is_running ending)
 
 pub never_enough : (q : Search) (format : Format) (entries : List Entry) → is_endless format ≡ true
     → is_enough q format entries ≡ false

@@ -32,6 +32,8 @@ use Rattle.pg_run.specs.Holding.{SearchesFor, waiting}
 use Rattle.pg_workers.specs.declared.block_search.BlockSearch.{Ghosts}
 use Rattle.pg_run.specs.declared.engine.Engine.{Engine}
 use Rattle.pg_run.specs.declared.fault.RunFault.TheVariants.{OutOfMemory, Sink}
+use Rattle.pg_seq.proofs.ArriveLemmas.{own_key}
+use Rattle.pg_base.proofs.SinkLemmas.{ok_of_err}
 
 -- Keys of blocks that were taken.
 
@@ -55,11 +57,6 @@ all_more key keys [] e = refl
 all_more key keys (b ∷ bs) e =
     all_by (is_taken keys b) (list_all (is_taken keys) bs) (list_all (is_taken (key ∷ keys)) bs) e
     (all_more key keys bs) (is_taken (key ∷ keys) b) (any_more key keys b)
-
-pub own_key : (keys : List (ℕ × ℕ)) (b : BlockData) → is_taken ((b.file, b.number) ∷ keys) b ≡ true
-own_key keys b =
-    ap (λ t. (t && b.number == b.number) || is_taken keys b) (eq-eqb b.file b.file refl)
-    ∙ ap (λ t. t || is_taken keys b) (eq-eqb b.number b.number refl)
 
 all_push : (keys : List (ℕ × ℕ)) (bs : List BlockData) (b : BlockData) → list_all (is_taken keys) bs ≡ true
     → list_all (is_taken ((b.file, b.number) ∷ keys)) (bs ++ b ∷ []) ≡ true
@@ -332,11 +329,6 @@ pub fails_by : {T E : Type 0} (r : Result T E) (P : T → Type 0) (Q : E → Typ
     → Q e → MatchResult r P Q
 fails_by (Ok x) P Q h q = absurd h
 fails_by (Err x) P Q h q = subst Q (sym h) q
-
--- nothing is said of the Ok of an error
-pub ok_of_err : {T E : Type 0} (r : Result T E) (P : Type 0) → IsErr r → OnOk r P
-ok_of_err (Ok x) P h = absurd (false≢true h)
-ok_of_err (Err e) P h = tt
 
 pub on_err_of : {T E : Type 0} (r : Result T E) (P : Type 0) → P → OnErr r P
 on_err_of (Ok x) P h = tt

@@ -1,30 +1,27 @@
 -- An open file, one call further.
-use Rattle.std.proofs.Common.{◌≡◌, ◌⊎◌, inl, inr, ℕ, ◌+◌, ◌<◌, ◌≤◌, ◌^◌, Bool, true, false, Some, None}
+use Rattle.std.proofs.Common.{◌≡◌, ◌⊎◌, inl, inr, ℕ, ◌+◌, ◌≤◌, ◌^◌, Bool, true, false, Some, None}
 use Rattle.std.proofs.Common.{Result, Ok, Err}
 use Rattle.std.proofs.Common.{List, [], ◌∷◌, ◌++◌, length, drop, refl, sym, ap, ◌∙◌, subst, arith}
 use Rattle.std.proofs.Common.{append_assoc, length-append}
-use Rattle.std.specs.List.{Any}
 use Rattle.std.specs.Result.{IfOk}
 use Rattle.std.proofs.lemmas.List.{append-nil}
 use Rattle.pg_selection.specs.Search.{terminator}
 use Rattle.pg_blocks.specs.Lines.{lines, AreShort, AreWhole}
 use Rattle.pg_blocks.specs.Blocks.{BlockData, joined}
-use Rattle.pg_blocks.specs.Cutter.{fed as fed_after, handed as handed_out, IsCutterAfter, Fed}
-use Rattle.pg_blocks.specs.Cutter.{IsDrained, AreAllBlocks, HasLongLine}
+use Rattle.pg_blocks.specs.Cutter.{handed as handed_out, AreAllBlocks, IsCutterAfter, IsDrained}
 use Rattle.pg_blocks.specs.declared.cutter.Cutter.{Cutter}
 use Rattle.pg_blocks.specs.declared.cutter.CutFault.{CutFault}
 use Rattle.pg_blocks.specs.declared.cutter.CutFault.TheVariants.{OutOfMemory as NoMemory, LineTooLong, FileTooLong}
 use Rattle.pg_blocks.proofs.EarlyLemmas.{AllEnd, all_are_cutting}
 use Rattle.pg_base.specs.declared.cause.Cause.TheVariants.{ReadFailed}
-use Rattle.pg_base.specs.Entries.{Entry, Read, Ending, Running, Left, is_failed}
+use Rattle.pg_base.specs.Entries.{Entry, Read, Ending, Running, Left, is_failed, is_running}
 use Rattle.pg_rows.specs.Output.{HasRoom, output, when}
 use Rattle.pg_rows.specs.Enough.{is_enough}
 use Rattle.pg_base.specs.Sink.{Stream, IsBeginning, TakesPart}
 use Rattle.pg_base.proofs.SinkLemmas.{takes_longer}
 use Rattle.pg_plan.specs.Plan.{Step, Announces, Ends, entries_of}
 use Rattle.pg_plan.proofs.CursorLemmas.{joined_push}
-use Rattle.pg_files.specs.Given.{Given, FilesPast, entries_given, files_given, gave_bytes, gave_end, newest_name}
-use Rattle.pg_run.specs.Lengths.{IsTooLong}
+use Rattle.pg_files.specs.Given.{Given, File, FilesPast, entries_given, files_given, newest_name}
 use Rattle.pg_run.specs.Told.{AddsFailure, faults_of}
 use Rattle.pg_base.specs.Causes.{fault_line}
 use Rattle.pg_run.specs.Faults.{fault_of_cut}
@@ -32,20 +29,21 @@ use Rattle.pg_run.specs.Outcome.{IsContinuation, GotWholeLines, IsOfAFile, NoneF
 use Rattle.pg_run.specs.Cover.{is_left, HasOpenFile}
 use Rattle.pg_run.specs.Holding.{Aim, HasPlan, MayStep, BreaksOffInSearch, SearchCause, AllIsWritten, IsWrittenFirst}
 use Rattle.pg_run.specs.Holding.{format_of, output_of}
-use Rattle.pg_run.specs.Reading.{IsInsideFile, HasCut, IsLost, CutCause, MayEndFile, IsBetweenFiles, BreaksOffInFile}
-use Rattle.pg_run.specs.Reading.{IsCommonBeginning, ReadCause, OnlyReadsOn, HasReadOn, ending_of, ending_after}
+use Rattle.pg_reader.specs.Reads.{CutCause, FedMore, HasFed, HasReadOn, IsLost, ending_after}
+use Rattle.pg_run.specs.Reading.{IsInsideFile, HasCut, MayEndFile, IsBetweenFiles, BreaksOffInFile}
+use Rattle.pg_run.specs.Reading.{IsCommonBeginning, ReadCause, ending_of}
 use Rattle.pg_workers.specs.declared.block_search.BlockSearch.{Ghosts}
 use Rattle.pg_run.specs.declared.engine.Engine.{Engine}
-use Rattle.pg_run.specs.declared.reader.FileReader.{FileReader}
-use Rattle.pg_run.specs.declared.reader.ReadOutcome.{ReadOutcome}
-use Rattle.pg_run.specs.declared.reader.ReadOutcome.TheVariants.{More, End, Failure, Refused}
+use Rattle.pg_reader.specs.declared.file_reader.FileReader.{FileReader}
+use Rattle.pg_reader.specs.declared.file_reader.ReadOutcome.{ReadOutcome}
+use Rattle.pg_reader.specs.declared.file_reader.ReadOutcome.TheVariants.{More, End, Failure, Refused}
 use Rattle.pg_run.specs.declared.fault.RunFault.{RunFault}
 use Rattle.pg_run.specs.declared.fault.RunFault.TheVariants.{OutOfMemory, Sink, TooManyFiles, TooLong}
 use Rattle.pg_seq.proofs.LongerLemmas.{alike_more}
 use Rattle.pg_run.proofs.CoverLemmas.{follows_begins, covers_alike}
-use Rattle.pg_run.proofs.GivenLemmas.{files_more, files_end, newest_told, too_long_given, bytes_before, end_before}
-use Rattle.pg_run.proofs.StepLemmas.{reads, read_ends, leaves, announces, ends, bytes_given, end_given, closed_left}
-use Rattle.pg_run.proofs.StepLemmas.{left_whole}
+use Rattle.pg_reader.proofs.ReadLemmas.{stands_by}
+use Rattle.pg_run.proofs.GivenLemmas.{newest_entry, newest_file, newest_told, same_bytes}
+use Rattle.pg_run.proofs.StepLemmas.{reads, leaves, announces, ends, closed_left, left_whole}
 use Rattle.pg_run.proofs.HoldLemmas.{room_of}
 use Rattle.pg_run.proofs.BlockLemmas.{Gives, GivesLines, given_end, gives_last, numbered_last, short_part}
 
@@ -113,23 +111,26 @@ left_lines aim steps given name front rest room r out e =
 -- What was read and not cut.
 
 -- a file that can't go on was cut whole
-none_lost : (came : ReadOutcome) (failed : Bool) (aim : Aim) (given : List Given) (lost : List ℕ)
-    → ending_after came ≡ ending_of failed → IsLost came aim given lost → lost ≡ []
-none_lost More failed aim given lost e h = h
-none_lost End failed aim given lost e h = h
-none_lost Failure failed aim given lost e h = h
-none_lost (Refused fault) true aim given lost e h = absurd (cc)
-none_lost (Refused fault) false aim given lost e h = absurd (cc)
+none_lost : (came : ReadOutcome) (failed : Bool) (end longest : ℕ) (given : List Given) (lost : List ℕ)
+    → ending_after came ≡ ending_of failed → IsLost came end longest given lost → lost ≡ []
+none_lost More failed end longest given lost e h = h
+none_lost End failed end longest given lost e h = h
+none_lost Failure failed end longest given lost e h = h
+none_lost (Refused fault) true end longest given lost e h = absurd (cc)
+none_lost (Refused fault) false end longest given lost e h = absurd (cc)
 
-cut_cause : (cut : CutFault) (aim : Aim) (given : List Given) (out : Stream) → CutCause cut aim given
-    → ReadCause (fault_of_cut cut) aim given out
+-- after a read a file isn't `Running`, as a plan's is
+none_runs : (came : ReadOutcome) → is_running (ending_after came) ≡ false
+none_runs More = refl
+none_runs End = refl
+none_runs Failure = refl
+none_runs (Refused fault) = refl
+
+cut_cause : (cut : CutFault) (aim : Aim) (given : List Given) (out : Stream)
+    → CutCause cut (terminator aim.query) aim.setup.line given → ReadCause (fault_of_cut cut) aim given out
 cut_cause NoMemory aim given out c = tt
 cut_cause LineTooLong aim given out c = c
 cut_cause FileTooLong aim given out c = c
-
-pub stands_by : {A : Type 0} {cutter cutter' : Cutter A} (past : Fed) → cutter' ≡ cutter → IsCutterAfter cutter past
-    → IsCutterAfter cutter' past
-stands_by {A = A} past e h = let S : Cutter A → Type 0 = λ c. IsCutterAfter c past in subst S (sym e) h
 
 pub drained_by : {A : Type 0} {cutter cutter' : Cutter A} → cutter' ≡ cutter → IsDrained cutter → IsDrained cutter'
 drained_by {A = A} e h = let D : Cutter A → Type 0 = λ c. IsDrained c in subst D (sym e) h
@@ -214,7 +215,7 @@ module _ {A : Type 0} {reader : FileReader A} {aim : Aim} {given : List Given} {
       let R : List ℕ → ReadOutcome → Type 0 =
       λ front came. HasOpenFile aim.query (format_of aim) h.name front (behind g.0) (ending_after came)
       (entries_of (Announces b ∷ steps)) (entries_given given) in
-      let L : ReadOutcome → Type 0 = λ came. IsLost came aim given h.lost in
+      let L : ReadOutcome → Type 0 = λ came. IsLost came end_of aim.setup.line given h.lost in
       record {
         fed = record h.fed { taken = h.fed.taken ++ b ∷ []; early = early };
         cut = cut;
@@ -241,7 +242,7 @@ module _ {A : Type 0} {reader : FileReader A} {aim : Aim} {given : List Given} {
   -- more was read, or the file can't go on, and no block was taken
   same_taken : (reader' : FileReader A) (given' : List Given) (bytes rest lost : List ℕ)
       → IsCutterAfter reader'.cutter (record h.fed { bytes = bytes }) → files_given given' ≡ files_given given
-      → bytes ++ lost ≡ joined h.fed.taken ++ rest → IsLost reader'.came aim given' lost
+      → bytes ++ lost ≡ joined h.fed.taken ++ rest → IsLost reader'.came end_of aim.setup.line given' lost
       → HasOpenFile aim.query (format_of aim) h.name (joined h.fed.taken) rest (ending_after reader'.came)
       (entries_of steps) (entries_given given')
       → HasCut reader' aim given' steps
@@ -269,7 +270,7 @@ module _ {A : Type 0} {reader : FileReader A} {aim : Aim} {given : List Given} {
       let R : ReadOutcome → Type 0 =
       λ came. HasOpenFile aim.query (format_of aim) h.name (joined h.fed.taken) h.rest (ending_after came)
       (entries_of steps) (entries_given given) in
-      let L : ReadOutcome → Type 0 = λ came. IsLost came aim given h.lost in
+      let L : ReadOutcome → Type 0 = λ came. IsLost came end_of aim.setup.line given h.lost in
       same_taken reader' given h.fed.bytes h.rest h.lost (subst F (append-nil h.fed.taken) cut) refl h.whole
       (subst L (sym same) h.cause) (subst R (sym same) h.reads)
 
@@ -348,7 +349,8 @@ module _ {A Q C : Type 0} {asks : Ghosts Q A C} {reader : FileReader A} {engine 
   IsAtEnd failed = ending h.cuts ≡ ending_of failed
 
   none_behind : (failed : Bool) → IsAtEnd failed → behind h.cuts [] ≡ []
-  none_behind failed e = none_lost reader.came failed aim given h.cuts.lost e h.cuts.cause
+  none_behind failed e =
+      none_lost reader.came failed (terminator aim.query) aim.setup.line given h.cuts.lost e h.cuts.cause
 
   last_seam : (b : BlockData) (failed : Bool) → IsAtEnd failed → Seam h.cuts b.bytes (behind h.cuts [])
   last_seam b failed e = inr (none_behind failed e, ap is_left e ∙ closed_left failed)
@@ -409,7 +411,7 @@ module _ {A Q C : Type 0} {asks : Ghosts Q A C} {reader : FileReader A} {engine 
       → out'.failures ≡ aim.out.failures → BreaksOffInFile aim given out' (fault_of_cut cut)
   refused_breaks out' cut e w calm =
       let c = h.cuts in
-      let L : ReadOutcome → Type 0 = λ came. IsLost came aim given c.lost in
+      let L : ReadOutcome → Type 0 = λ came. IsLost came (terminator aim.query) aim.setup.line given c.lost in
       let R : ReadOutcome → Type 0 =
       λ came. HasOpenFile aim.query (format_of aim) c.name (joined c.fed.taken) c.rest (ending_after came)
       (entries_of h.steps) (entries_given given) in
@@ -442,172 +444,89 @@ module _ {A : Type 0} {reader : FileReader A} {aim : Aim} {given : List Given} {
 
   cut_whole : h.fed.bytes ≡ joined h.fed.taken ++ h.rest
   cut_whole =
-      let L : ReadOutcome → Type 0 = λ came. IsLost came aim given h.lost in
+      let L : ReadOutcome → Type 0 = λ came. IsLost came (terminator aim.query) aim.setup.line given h.lost in
       let none : h.lost ≡ [] = subst L more h.cause in
       sym (append-nil h.fed.bytes) ∙ (ap (λ xs. h.fed.bytes ++ xs) (sym none) ∙ h.whole)
 
-  whole_more : (piece : List ℕ) → h.fed.bytes ++ piece ≡ joined h.fed.taken ++ (h.rest ++ piece)
-  whole_more piece = ap (λ xs. xs ++ piece) cut_whole ∙ append_assoc (joined h.fed.taken) h.rest piece
+-- its cutter was fed all that was read but what was lost
+pub has_fed : {A : Type 0} {reader : FileReader A} {aim : Aim} {given : List Given} {steps : List Step}
+    (h : HasCut reader aim given steps) → HasFed reader h.fed h.lost given
+has_fed {reader = reader} {aim = aim} {given = given} h =
+    let ending = ending_after reader.came in
+    let L : ℕ → ℕ → Type 0 = λ end longest. IsLost reader.came end longest given h.lost in
+    record {
+      cut = h.cut;
+      newest =
+          newest_file given h.name (joined h.fed.taken ++ h.rest) ending h.reads.before h.reads.given_is
+          ∙ ap (λ xs. File (newest_name given) xs ending ∷ drop 1 given) (sym h.whole);
+      cause =
+          subst (λ end. L end h.fed.longest) (sym h.ends)
+          (subst (L (terminator aim.query)) (sym h.longest) h.cause);
+    }
 
-  reads_more : (piece : List ℕ) → HasOpenFile aim.query (format_of aim) h.name (joined h.fed.taken) (h.rest ++ piece)
-      Left
-      (entries_of steps) (entries_given (gave_bytes piece given))
-  reads_more piece =
-      let R : List Entry → Type 0 =
-      λ es. HasOpenFile aim.query (format_of aim) h.name (joined h.fed.taken) (h.rest ++ piece) Left
-      (entries_of steps) es in
-      subst R (sym (bytes_given piece given))
-      (reads aim.query (format_of aim) h.name (joined h.fed.taken) h.rest (entries_of steps) (entries_given given)
-      piece open_yet)
+-- The reader read on, and no block was taken.
+module _ {A : Type 0} {reader reader' : FileReader A} {aim : Aim} {given given' : List Given} {steps : List Step}
+    (h : HasCut reader aim given steps) (on : FedMore reader h.fed given reader' given')
+    (before : drop 1 given' ≡ drop 1 given) where
+  abbrev all_read : List ℕ
+  all_read = (h.fed.bytes ++ on.more) ++ on.lost
 
-  is_long : (piece : List ℕ)
-      → Any (λ l. aim.setup.line < length l) (lines (terminator aim.query) (h.fed.bytes ++ piece))
-      ⊎ (2 ^ 62 < length (h.fed.bytes ++ piece))
-      → IsTooLong (terminator aim.query) aim.setup.line (gave_bytes piece given)
-  is_long piece long =
-      let given_is : entries_given given ≡ Read h.name h.fed.bytes Left ∷ open_yet.before =
-      open_yet.given_is ∙ ap (λ xs. Read h.name xs Left ∷ open_yet.before) (sym cut_whole) in
-      too_long_given (terminator aim.query) aim.setup.line given h.name h.fed.bytes piece open_yet.before given_is long
+  abbrev OpenBy : List ℕ → ReadOutcome → List Entry → Type 0
+  OpenBy rest came es =
+      HasOpenFile aim.query (format_of aim) h.name (joined h.fed.taken) rest (ending_after came) (entries_of steps) es
 
-  long_cause : (piece : List ℕ) (cut : CutFault) → (cut ≡ LineTooLong → HasLongLine (fed_after h.fed piece))
-      → (cut ≡ FileTooLong → 2 ^ 62 < length h.fed.bytes + length piece) → CutCause cut aim (gave_bytes piece given)
-  long_cause piece NoMemory line file = tt
-  long_cause piece LineTooLong line file =
-      let L : ℕ → Type 0 = λ n. Any (λ l. n < length l) (lines h.fed.end (h.fed.bytes ++ piece)) in
-      let E : ℕ → Type 0 = λ e. Any (λ l. aim.setup.line < length l) (lines e (h.fed.bytes ++ piece)) in
-      is_long piece (inl (subst E h.ends (subst L h.longest (line refl))))
-  long_cause piece FileTooLong line file =
-      is_long piece (inr (omega (arith, file refl, length-append h.fed.bytes piece)))
+  given_on : given' ≡ File (newest_name given) all_read (ending_after reader'.came) ∷ drop 1 given
+  given_on =
+      on.feeds.newest
+      ∙ (ap (λ n. File n all_read (ending_after reader'.came) ∷ drop 1 given') on.name
+      ∙ ap (λ gs. File (newest_name given) all_read (ending_after reader'.came) ∷ gs) before)
 
-  -- it gave more, which was cut
-  pub piece_cut : (reader' : FileReader A) (piece : List ℕ) → reader'.came ≡ More
-      → IsCutterAfter reader'.cutter (fed_after h.fed piece) → HasCut reader' aim (gave_bytes piece given) steps
-  piece_cut reader' piece came cut =
-      let R : ReadOutcome → Type 0 =
-      λ came. HasOpenFile aim.query (format_of aim) h.name (joined h.fed.taken) (h.rest ++ piece) (ending_after came)
-      (entries_of steps) (entries_given (gave_bytes piece given)) in
-      let L : ReadOutcome → Type 0 = λ came. IsLost came aim (gave_bytes piece given) [] in
-      same_taken h reader' (gave_bytes piece given) (h.fed.bytes ++ piece) (h.rest ++ piece) [] cut
-      (files_more piece given) (append-nil (h.fed.bytes ++ piece) ∙ whole_more piece) (subst L (sym came) refl)
-      (subst R (sym came) (reads_more piece))
+  cause_on : IsLost reader'.came (terminator aim.query) aim.setup.line given' on.lost
+  cause_on =
+      let L : ℕ → ℕ → Type 0 = λ end longest. IsLost reader'.came end longest given' on.lost in
+      subst (λ end. L end aim.setup.line) h.ends (subst (L h.fed.end) h.longest on.feeds.cause)
 
-  -- or wasn't
-  pub piece_refused : (reader' : FileReader A) (piece : List ℕ) (cut : CutFault) → reader'.came ≡ Refused cut
-      → IsCutterAfter reader'.cutter h.fed → (cut ≡ LineTooLong → HasLongLine (fed_after h.fed piece))
-      → (cut ≡ FileTooLong → 2 ^ 62 < length h.fed.bytes + length piece)
-      → HasCut reader' aim (gave_bytes piece given) steps
-  piece_refused reader' piece cut came stands line file =
-      let R : ReadOutcome → Type 0 =
-      λ came. HasOpenFile aim.query (format_of aim) h.name (joined h.fed.taken) (h.rest ++ piece) (ending_after came)
-      (entries_of steps) (entries_given (gave_bytes piece given)) in
-      let L : ReadOutcome → Type 0 = λ came. IsLost came aim (gave_bytes piece given) piece in
-      same_taken h reader' (gave_bytes piece given) h.fed.bytes (h.rest ++ piece) piece stands (files_more piece given)
-      (whole_more piece) (subst L (sym came) (long_cause piece cut line file))
-      (subst R (sym came) (reads_more piece))
+  -- bytes behind those that were read
+  more_cut : reader.came ≡ More → HasCut reader' aim given' steps
+  more_cut more =
+      let piece = on.more ++ on.lost in
+      let front = joined h.fed.taken in
+      let stands = ending_after reader'.came in
+      let yet = open_yet h more in
+      let was = newest_entry given h.name (front ++ h.rest) Left yet.before yet.given_is in
+      let read : all_read ≡ (front ++ h.rest) ++ piece =
+      append_assoc h.fed.bytes on.more on.lost ∙ ap (λ xs. xs ++ piece) (cut_whole h more) in
+      same_taken h reader' given' (h.fed.bytes ++ on.more) (h.rest ++ piece) on.lost on.feeds.cut
+      (ap files_given given_on ∙ sym (ap files_given (has_fed h).newest))
+      (read ∙ append_assoc front h.rest piece) cause_on
+      (reads aim.query (format_of aim) h.name front h.rest (entries_of steps) (entries_given given) piece stands
+      (entries_given given') (none_runs reader'.came) yet
+      (ap entries_given given_on
+      ∙ (ap (λ n. Read n all_read stands ∷ entries_given (drop 1 given)) was.0
+      ∙ (ap (λ es. Read h.name all_read stands ∷ es) was.1 ∙ ap (λ xs. Read h.name xs stands ∷ yet.before) read))))
 
-  -- it wasn't read, for want of memory
-  pub file_unread : (reader' : FileReader A) → reader'.came ≡ Refused NoMemory → IsCutterAfter reader'.cutter h.fed
-      → HasCut reader' aim given steps
-  file_unread reader' came stands =
-      let R : ReadOutcome → Type 0 =
-      λ came. HasOpenFile aim.query (format_of aim) h.name (joined h.fed.taken) h.rest (ending_after came)
-      (entries_of steps) (entries_given given) in
-      let L : ReadOutcome → Type 0 = λ came. IsLost came aim given h.lost in
-      same_taken h reader' given h.fed.bytes h.rest h.lost stands refl h.whole (subst L (sym came) tt)
-      (subst R (sym came) (subst R more h.reads))
+  -- nothing, but that what was lost may have been fed
+  none_cut : reader'.came ≡ reader.came → given' ≡ given → HasCut reader' aim given' steps
+  none_cut came is =
+      let same : all_read ≡ h.fed.bytes ++ h.lost =
+      same_bytes _ _ all_read (h.fed.bytes ++ h.lost) _ _ _ _ (sym given_on ∙ (is ∙ (has_fed h).newest)) in
+      same_taken h reader' given' (h.fed.bytes ++ on.more) h.rest on.lost on.feeds.cut (ap files_given is)
+      (same ∙ h.whole) cause_on
+      (subst (λ gs. OpenBy h.rest reader'.came (entries_given gs)) (sym is)
+      (subst (λ c. OpenBy h.rest c (entries_given given)) (sym came) h.reads))
 
-  -- it met the end, or failed
-  pub file_stopped : (reader' : FileReader A) (failed : Bool) → ending_after reader'.came ≡ ending_of failed
-      → ((lost : List ℕ) → lost ≡ [] → IsLost reader'.came aim (gave_end failed given) lost)
-      → IsCutterAfter reader'.cutter h.fed → HasCut reader' aim (gave_end failed given) steps
-  file_stopped reader' failed stops none stands =
-      let R : List Entry → Ending → Type 0 =
-      λ es ending. HasOpenFile aim.query (format_of aim) h.name (joined h.fed.taken) h.rest ending
-      (entries_of steps) es in
-      same_taken h reader' (gave_end failed given) h.fed.bytes h.rest [] stands (files_end failed given)
-      (append-nil h.fed.bytes ∙ cut_whole) (none [] refl)
-      (subst (R (entries_given (gave_end failed given))) (sym stops)
-      (subst (λ es. R es (ending_of failed)) (sym (end_given failed given))
-      (read_ends aim.query (format_of aim) h.name (joined h.fed.taken) h.rest (entries_of steps)
-      (entries_given given) failed open_yet)))
+  fed_cut : HasCut reader' aim given' steps
+  fed_cut = go on.stops
+    where
+      go : (reader.came ≡ More) ⊎ ((reader'.came ≡ reader.came) × (given' ≡ given)) → HasCut reader' aim given' steps
+      go (inl more) = more_cut more
+      go (inr same) = none_cut same.0 same.1
 
--- What one read came to.
-
-pub reads_none : {F L : Type 0} {past : F → FilesPast} {list : F → L} {files : F} → OnlyReadsOn past list files files
-reads_none = record { done = refl; before = refl; same_list = refl }
-
-pub then_reads : {F L : Type 0} {past : F → FilesPast} {list : F → L} {files files' files'' : F}
-    → OnlyReadsOn past list files files' → OnlyReadsOn past list files' files'' → OnlyReadsOn past list files files''
-then_reads on more = record {
-  done = more.done ∙ on.done;
-  before = more.before ∙ on.before;
-  same_list = more.same_list ∙ on.same_list;
-}
-
-read_by : {F L : Type 0} {past : F → FilesPast} {list : F → L} {files files' : F}
-    → (past files').done ≡ (past files).done → list files' ≡ list files → (given : List Given)
-    → (past files').given ≡ given → drop 1 given ≡ drop 1 (past files).given → OnlyReadsOn past list files files'
-read_by done same given is before =
-    record { done = done; before = ap (λ gs. drop 1 gs) is ∙ before; same_list = same }
-
-pub nothing_read : {A F L : Type 0} {past : F → FilesPast} {list : F → L} {reader : FileReader A} {files : F}
-    → HasReadOn past list reader files reader files
-nothing_read = record { reads_on = reads_none; cuts = λ aim steps h. h }
-
-module _ {A F L : Type 0} {past : F → FilesPast} {list : F → L} {reader reader' : FileReader A} {files files' : F}
-    (more : reader.came ≡ More) (done : (past files').done ≡ (past files).done) (same : list files' ≡ list files) where
-  -- its end, or a failure
-  pub read_stopped : (failed : Bool) → (past files').given ≡ gave_end failed (past files).given
-      → ending_after reader'.came ≡ ending_of failed
-      → ((aim : Aim) → IsLost reader'.came aim (gave_end failed (past files).given) [])
-      → ((fed : Fed) → IsCutterAfter reader.cutter fed → IsCutterAfter reader'.cutter fed)
-      → HasReadOn past list reader files reader' files'
-  read_stopped failed is stops none stands = record {
-    reads_on = read_by done same _ is (end_before failed (past files).given);
-    cuts = λ aim steps h.
-        let P : List Given → Type 0 = λ gs. HasCut reader' aim gs steps in
-        let L : List ℕ → Type 0 = λ lost. IsLost reader'.came aim (gave_end failed (past files).given) lost in
-        subst P (sym is)
-        (file_stopped h more reader' failed stops (λ lost e. subst L (sym e) (none aim)) (stands h.fed h.cut));
-  }
-
-  -- nothing, for want of memory
-  pub read_unread : (past files').given ≡ (past files).given → reader'.came ≡ Refused NoMemory
-      → ((fed : Fed) → IsCutterAfter reader.cutter fed → IsCutterAfter reader'.cutter fed)
-      → HasReadOn past list reader files reader' files'
-  read_unread is came stands = record {
-    reads_on = read_by done same _ is refl;
-    cuts = λ aim steps h.
-        let P : List Given → Type 0 = λ gs. HasCut reader' aim gs steps in
-        subst P (sym is) (file_unread h more reader' came (stands h.fed h.cut));
-  }
-
-  -- bytes that are cut
-  pub read_cut : (piece : List ℕ) → (past files').given ≡ gave_bytes piece (past files).given → reader'.came ≡ More
-      → ((fed : Fed) → IsCutterAfter reader.cutter fed → IsCutterAfter reader'.cutter (fed_after fed piece))
-      → HasReadOn past list reader files reader' files'
-  read_cut piece is came cut = record {
-    reads_on = read_by done same _ is (bytes_before piece (past files).given);
-    cuts = λ aim steps h.
-        let P : List Given → Type 0 = λ gs. HasCut reader' aim gs steps in
-        subst P (sym is) (piece_cut h more reader' piece came (cut h.fed h.cut));
-  }
-
-  -- bytes that the cutter doesn't take
-  pub read_refused : (piece : List ℕ) (cut : CutFault) → (past files').given ≡ gave_bytes piece (past files).given
-      → reader'.came ≡ Refused cut
-      → ((fed : Fed) → IsCutterAfter reader.cutter fed → IsCutterAfter reader'.cutter fed)
-      → ((fed : Fed) → IsCutterAfter reader.cutter fed → cut ≡ LineTooLong → HasLongLine (fed_after fed piece))
-      → ((fed : Fed) → IsCutterAfter reader.cutter fed → cut ≡ FileTooLong
-      → 2 ^ 62 < length fed.bytes + length piece)
-      → HasReadOn past list reader files reader' files'
-  read_refused piece cut is came stands line file = record {
-    reads_on = read_by done same _ is (bytes_before piece (past files).given);
-    cuts = λ aim steps h.
-        let P : List Given → Type 0 = λ gs. HasCut reader' aim gs steps in
-        subst P (sym is) (piece_refused h more reader' piece cut came (stands h.fed h.cut) (line h.fed h.cut)
-        (file h.fed h.cut));
-  }
+-- what was cut is cut
+pub cuts_on : {A F L : Type 0} {past : F → FilesPast} {list : F → L} {reader reader' : FileReader A}
+    {files files' : F} {aim : Aim} {steps : List Step} → HasCut reader aim (past files).given steps
+    → HasReadOn past list reader files reader' files' → HasCut reader' aim (past files').given steps
+cuts_on h on = fed_cut h (on.feeds h.fed h.lost (has_fed h)) on.reads_on.before
 
 -- it may be left
 pub may_leave : {A Q C : Type 0} {asks : Ghosts Q A C} {reader : FileReader A} {engine : Engine A Q C asks}
@@ -630,7 +549,7 @@ pub read_on : {A Q C F L : Type 0} {asks : Ghosts Q A C} {past : F → FilesPast
     {files files' : F}
     {engine : Engine A Q C asks} {aim : Aim} {out : Stream} → IsInsideFile reader engine aim (past files).given out
     → HasReadOn past list reader files reader' files' → IsInsideFile reader' engine aim (past files').given out
-read_on {aim = aim} h on = record { steps = h.steps; holds = h.holds; cuts = on.cuts aim h.steps h.cuts }
+read_on {aim = aim} h on = record { steps = h.steps; holds = h.holds; cuts = cuts_on h.cuts on }
 
 -- memory went from the engine to the reader
 pub recycled : {A Q C : Type 0} {asks : Ghosts Q A C} {reader : FileReader A} {engine : Engine A Q C asks} {aim : Aim}

@@ -36,8 +36,10 @@ use Rattle.pg_run.specs.declared.engine.Engine.{Engine}
 use Rattle.pg_run.specs.Faults.{fault_of_round}
 use Rattle.pg_round.specs.declared.fault.RoundFault.{RoundFault}
 use Rattle.pg_round.specs.declared.fault.RoundFault.TheVariants.{OutOfMemory as NoMemory, Sink as RoundSink}
-use Rattle.pg_run.proofs.HoldLemmas.{any_more, own_key, handed_is}
+use Rattle.pg_run.proofs.HoldLemmas.{any_more, handed_is}
 use Rattle.pg_rows.proofs.WindowLemmas.{all_push}
+use Rattle.pg_seq.proofs.ArriveLemmas.{own_key}
+use Rattle.pg_round.proofs.ReceiptLemmas.{plan_kept}
 
 -- A block that was taken stays so.
 
@@ -179,10 +181,6 @@ short_plan end (Announces b ∷ p) h = all_push (λ (x : BlockData). AreShort en
 short_plan end (Ends failed ∷ p) h = short_plan end p h.1
 short_plan end (Misses name ∷ p) h = short_plan end p h.1
 
-pub plan_after : (rs : List Searched) (events : List Event) → plan_of (arrivals rs events) ≡ plan_of events
-plan_after [] events = refl
-plan_after (r ∷ rs) events = plan_after rs (Arrived r ∷ events)
-
 all_later : {X : Type 0} (P : X → Type 0) (xs ys : List X) → AllByRecursion P (xs ++ ys) → AllByRecursion P ys
 all_later P [] ys h = h
 all_later P (x ∷ xs) ys h = all_later P xs ys h.1
@@ -250,7 +248,7 @@ module _ {A Q C : Type 0} {asks : Ghosts Q A C} {engine : Engine A Q C asks} {ai
           events = arrivals rs h.events;
           written = h.written ++ wrote;
           stands = round.2.2;
-          planned = plan_after rs h.events ∙ h.planned;
+          planned = plan_kept rs h.events ∙ h.planned;
           taken = announced steps;
           blocks = sym (append-nil (announced steps)) ∙ ap (λ bs. announced steps ++ bs) (sym none);
           all = subst F h.planned all;

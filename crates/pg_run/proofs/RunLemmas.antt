@@ -27,15 +27,15 @@ use Rattle.pg_run.specs.Outcome.{AreReadRightly, EndsAtSelected, RunFinishes, Br
 use Rattle.pg_run.specs.Holding.{Aim, HasPlan, BreaksOffInSearch, AllIsWritten, IsFinished, IsWrittenFirst}
 use Rattle.pg_run.specs.Holding.{format_of, output_of}
 use Rattle.pg_run.specs.Cover.{HasOpenFile}
-use Rattle.pg_run.specs.Reading.{IsInsideFile, IsLost, IsBetweenFiles, AllIsTold, BreaksOffInFile, IsCommonBeginning}
+use Rattle.pg_reader.specs.Reads.{IsLost, ending_after}
+use Rattle.pg_run.specs.Reading.{IsInsideFile, IsBetweenFiles, AllIsTold, BreaksOffInFile, IsCommonBeginning}
 use Rattle.pg_run.specs.Reading.{ReadCause, BreaksOffTold, IsDone, BreaksOffBehind, GaveFile, GaveOneAtMost}
 use Rattle.pg_seq.specs.Settled.{AreLeftRightly}
-use Rattle.pg_run.specs.Reading.{ending_after}
 use Rattle.pg_workers.specs.declared.block_search.BlockSearch.{Ghosts}
 use Rattle.pg_run.specs.declared.engine.Engine.{Engine}
-use Rattle.pg_run.specs.declared.reader.FileReader.{FileReader}
-use Rattle.pg_run.specs.declared.reader.ReadOutcome.{ReadOutcome}
-use Rattle.pg_run.specs.declared.reader.ReadOutcome.TheVariants.{More}
+use Rattle.pg_reader.specs.declared.file_reader.FileReader.{FileReader}
+use Rattle.pg_reader.specs.declared.file_reader.ReadOutcome.{ReadOutcome}
+use Rattle.pg_reader.specs.declared.file_reader.ReadOutcome.TheVariants.{More}
 use Rattle.pg_run.specs.declared.setup.Setup.{Setup}
 use Rattle.pg_run.specs.declared.fault.RunFault.{RunFault}
 use Rattle.pg_run.specs.declared.fault.RunFault.TheVariants.{OutOfMemory, Sink, TooManyFiles, TooLong}
@@ -284,7 +284,8 @@ module _ {A Q C : Type 0} {asks : Ghosts Q A C} {engine : Engine A Q C asks} {ai
       let R : ReadOutcome → Type 0 =
       λ came. HasOpenFile aim.query (format_of aim) name [] [] (ending_after came) (entries_of (Opens name ∷ h.steps))
       (entries_given (File name [] Left ∷ given)) in
-      let L : ReadOutcome → Type 0 = λ came. IsLost came aim (File name [] Left ∷ given) [] in
+      let L : ReadOutcome → Type 0 =
+      λ came. IsLost came (terminator aim.query) aim.setup.line (File name [] Left ∷ given) [] in
       record {
         steps = Opens name ∷ h.steps;
         holds = k;

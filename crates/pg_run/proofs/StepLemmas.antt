@@ -10,7 +10,6 @@ use Rattle.pg_rows.specs.declared.format.Format.{Format}
 use Rattle.pg_base.specs.Entries.{Entry, Missed, Read, Ending, Running, Ended, Failed, Left, is_running}
 use Rattle.pg_plan.specs.Plan.{with_bytes, with_end}
 use Rattle.pg_rows.specs.Enough.{is_enough}
-use Rattle.pg_files.specs.Given.{Given, NoFile, File, entries_given, gave_bytes, gave_end}
 use Rattle.pg_run.specs.Cover.{is_left, IsEntryOf, Covers, HasOpenFile}
 
 append_none : (xs ys : List ℕ) → xs ++ ys ≡ [] → (xs ≡ []) × (ys ≡ [])
@@ -19,10 +18,6 @@ append_none (x ∷ xs) ys e = absurd (cc)
 
 abbrev pub closed_by : Bool → Ending
 closed_by failed = cond failed Failed Ended
-
-closed_runs : (failed : Bool) → is_running (closed_by failed) ≡ false
-closed_runs true = refl
-closed_runs false = refl
 
 pub closed_left : (failed : Bool) → is_left (closed_by failed) ≡ false
 closed_left true = refl
@@ -55,29 +50,17 @@ module _ (q : Search) (format : Format) where
         go (inl w) = w
         go (inr n) = absurd (false≢true (sym n.1))
 
-    -- a read gives more
-    pub reads : (more : List ℕ) → HasOpenFile q format name front rest Left planned given
-        → HasOpenFile q format name front (rest ++ more) Left planned (with_bytes more given)
-    reads more h = record {
+    -- reads give more, and may meet the end or fail
+    pub reads : (more : List ℕ) (ending : Ending) (given' : List Entry) → is_running ending ≡ false
+        → (h : HasOpenFile q format name front rest Left planned given)
+        → given' ≡ Read name ((front ++ rest) ++ more) ending ∷ h.before
+        → HasOpenFile q format name front (rest ++ more) ending planned given'
+    reads more ending given' stopped h is = record {
       earlier = h.earlier;
       before = h.before;
       planned_is = h.planned_is;
-      given_is =
-          ap (with_bytes more) h.given_is ∙ ap (λ xs. Read name xs Left ∷ h.before) (append_assoc front rest more);
-      stopped = h.stopped;
-      seam = inl (left_whole h);
-      covers = h.covers;
-    }
-
-    -- a read meets the end, or fails
-    pub read_ends : (failed : Bool) → HasOpenFile q format name front rest Left planned given
-        → HasOpenFile q format name front rest (closed_by failed) planned (with_end failed given)
-    read_ends failed h = record {
-      earlier = h.earlier;
-      before = h.before;
-      planned_is = h.planned_is;
-      given_is = ap (with_end failed) h.given_is;
-      stopped = closed_runs failed;
+      given_is = is ∙ ap (λ xs. Read name xs ending ∷ h.before) (append_assoc front rest more);
+      stopped = stopped;
       seam = inl (left_whole h);
       covers = h.covers;
     }
@@ -135,16 +118,3 @@ module _ (q : Search) (format : Format) where
           (Read name front (closed_by failed))
       entry true = refl
       entry false = inl refl
-
--- what was given, with causes and without
-pub bytes_given : (more : List ℕ) (given : List Given) → entries_given (gave_bytes more given) ≡ with_bytes more
-    (entries_given given)
-bytes_given more [] = refl
-bytes_given more (NoFile name cause ∷ given) = refl
-bytes_given more (File name bytes ending ∷ given) = refl
-
-pub end_given : (failed : Bool) (given : List Given) → entries_given (gave_end failed given) ≡ with_end failed
-    (entries_given given)
-end_given failed [] = refl
-end_given failed (NoFile name cause ∷ given) = refl
-end_given failed (File name bytes ending ∷ given) = refl

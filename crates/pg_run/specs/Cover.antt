@@ -46,10 +46,3 @@ pub record HasOpenFile (q : Search) (format : Format) (name front rest : List �
   pub stopped : is_running ending ≡ false
   pub seam : AreWhole (terminator q) front ⊎ ((rest ≡ []) × (is_left ending ≡ false))
   pub covers : Covers q format earlier before
-
--- no file is open, or one is
-abbrev pub PlanFollows : Search → Format → List Entry → List Entry → Type 0
-PlanFollows q format planned given =
-    Covers q format planned given
-    ⊎ ((name : List ℕ) × (front : List ℕ) × (rest : List ℕ) × (ending : Ending)
-    × HasOpenFile q format name front rest ending planned given)

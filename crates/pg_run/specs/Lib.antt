@@ -2,7 +2,6 @@ pub mod Cover
 pub mod Endless
 pub mod Faults
 pub mod Holding
-pub mod Lengths
 pub mod Outcome
 pub mod Reading
 pub mod Searches

@@ -10,7 +10,7 @@ use Rattle.pg_rows.specs.Output.{has_selected, output, status}
 use Rattle.pg_base.specs.Sink.{Stream, TakesPart}
 use Rattle.pg_seq.specs.Settled.{AreLeftRightly}
 use Rattle.pg_files.specs.Given.{AllGiven, FilesPast, Given, entries_given, files_given}
-use Rattle.pg_run.specs.Lengths.{IsTooLong}
+use Rattle.pg_reader.specs.Lengths.{IsTooLong}
 use Rattle.pg_run.specs.Told.{told_of}
 use Rattle.pg_run.specs.declared.setup.Setup.{Setup}
 use Rattle.pg_run.specs.declared.fault.RunFault.{RunFault}

@@ -5,15 +5,14 @@ use Rattle.std.specs.Result.{MatchResult}
 use Rattle.pg_selection.specs.Search.{terminator}
 use Rattle.pg_blocks.specs.Blocks.{joined}
 use Rattle.pg_blocks.specs.Cutter.{Fed, IsCutterAfter, IsDrained}
-use Rattle.pg_blocks.specs.declared.cutter.CutFault.{CutFault}
-use Rattle.pg_blocks.specs.declared.cutter.CutFault.TheVariants.{OutOfMemory as NoMemory, LineTooLong, FileTooLong}
 use Rattle.pg_rows.specs.Modes.{is_quiet}
 use Rattle.pg_base.specs.Entries.{Entry, Ending, Ended, Failed, Left}
 use Rattle.pg_rows.specs.Output.{output}
 use Rattle.pg_base.specs.Sink.{Stream, TakesPart}
 use Rattle.pg_plan.specs.Plan.{Step, Ends, is_open, opened, last_blocks, entries_of}
 use Rattle.pg_files.specs.Given.{Given, File, FilesPast, AllGiven, entries_given, files_given}
-use Rattle.pg_run.specs.Lengths.{IsTooLong}
+use Rattle.pg_reader.specs.Lengths.{IsTooLong}
+use Rattle.pg_reader.specs.Reads.{IsLost, ending_after}
 use Rattle.pg_run.specs.Told.{told_of}
 use Rattle.pg_run.specs.Outcome.{IsContinuation, EndsAtSelected, AsksToTheEnd, GotWholeLines, IsOfAFile, NoneFailed}
 use Rattle.pg_run.specs.Outcome.{BreaksOff, HasStopped}
@@ -23,33 +22,12 @@ use Rattle.pg_workers.specs.declared.block_search.BlockSearch.{Ghosts}
 use Rattle.pg_run.specs.declared.engine.Engine.{Engine}
 use Rattle.pg_run.specs.declared.fault.RunFault.{RunFault}
 use Rattle.pg_run.specs.declared.fault.RunFault.TheVariants.{OutOfMemory, Sink, TooManyFiles, TooLong}
-use Rattle.pg_run.specs.declared.reader.FileReader.{FileReader}
-use Rattle.pg_run.specs.declared.reader.ReadOutcome.{ReadOutcome}
-use Rattle.pg_run.specs.declared.reader.ReadOutcome.TheVariants.{More, End, Failure, Refused}
+use Rattle.pg_reader.specs.declared.file_reader.FileReader.{FileReader}
+use Rattle.pg_reader.specs.declared.file_reader.ReadOutcome.TheVariants.{More}
 
--- how a file stands after a read
-abbrev pub ending_after : ReadOutcome → Ending
-ending_after More = Left
-ending_after End = Ended
-ending_after Failure = Failed
-ending_after (Refused fault) = Left
-
--- how it stands once it can't go on
+-- how a file stands once it can't go on
 abbrev pub ending_of : Bool → Ending
 ending_of failed = if failed then Failed else Ended
-
--- why the cutter takes no more of the newest file
-abbrev pub CutCause : CutFault → Aim → List Given → Type 0
-CutCause NoMemory aim given = Unit {0}
-CutCause LineTooLong aim given = IsTooLong (terminator aim.query) aim.setup.line given
-CutCause FileTooLong aim given = IsTooLong (terminator aim.query) aim.setup.line given
-
--- these bytes were read and not cut: there are some only where the cutter took no more
-abbrev pub IsLost : ReadOutcome → Aim → List Given → List ℕ → Type 0
-IsLost More aim given lost = lost ≡ []
-IsLost End aim given lost = lost ≡ []
-IsLost Failure aim given lost = lost ≡ []
-IsLost (Refused fault) aim given lost = CutCause fault aim given
 
 -- A file is open, the newest that was given. All that it gave was cut, but where the cutter took no more; and the plan
 -- has the blocks that were taken of those that are cut.
@@ -67,18 +45,9 @@ pub record HasCut {A : Type 0} (reader : FileReader A) (aim : Aim) (given : List
   pub rest : List ℕ
   pub lost : List ℕ
   pub whole : fed.bytes ++ lost ≡ joined fed.taken ++ rest
-  pub cause : IsLost reader.came aim given lost
+  pub cause : IsLost reader.came (terminator aim.query) aim.setup.line given lost
   pub reads : HasOpenFile aim.query (format_of aim) name (joined fed.taken) rest (ending_after reader.came)
       (entries_of steps) (entries_given given)
-
--- for some run it is so
-abbrev pub HasCutSome : {A : Type 0} → FileReader A → List Given → Type 0
-HasCutSome reader given = (aim : Aim) × (steps : List Step) × HasCut reader aim given steps
-
--- and the file may be read further
-pub record MayBeRead {A : Type 0} (reader : FileReader A) (given : List Given) : Type 0 where
-  pub more : reader.came ≡ More
-  pub cut : HasCutSome reader given
 
 -- the file may be read further, and all blocks that are cut were taken
 abbrev pub AwaitsMore : {A : Type 0} → FileReader A → Type 0
@@ -111,19 +80,6 @@ module _ {A Q C : Type 0} {asks : Ghosts Q A C} where
     pub ended : ending_after reader.came ≡ ending_of failed
     pub room : HasRoomInRound engine
     pub in_file : IsReadingSomeFile reader engine out
-
--- At most the newest file was read further. What was given before, and what is listed, stands.
-pub record OnlyReadsOn {F L : Type 0} (past : F → FilesPast) (list : F → L) (files files' : F) : Type 0 where
-  pub done : (past files').done ≡ (past files).done
-  pub before : drop 1 (past files').given ≡ drop 1 (past files).given
-  pub same_list : list files' ≡ list files
-
--- The reader read on, and what was cut is cut.
-pub record HasReadOn {A F L : Type 0} (past : F → FilesPast) (list : F → L) (reader : FileReader A) (files : F)
-    (reader' : FileReader A) (files' : F) : Type 0 where
-  pub reads_on : OnlyReadsOn past list files files'
-  pub cuts : (aim : Aim) (steps : List Step) → HasCut reader aim (past files).given steps
-      → HasCut reader' aim (past files').given steps
 
 module _ {A Q C : Type 0} {asks : Ghosts Q A C} where
   -- A file is open, and once it has ended so the plan has all that is needed of what was given.

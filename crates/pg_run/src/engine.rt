@@ -12,7 +12,8 @@ use crate::room::has_room_for;
 use crate::setup::Setup;
 use pg_base::{Sink, WriteError};
 use pg_blocks::{Block, Cutter};
-use pg_round::{BlockSearch, NothingToRead, Reader, search_round};
+use pg_reader::{NothingToRead, Reader};
+use pg_round::{BlockSearch, search_round};
 use pg_rows::Format;
 use pg_selection::Selector;
 use pg_seq::Sequencer;
@@ -388,7 +389,7 @@ impl<A: Allocator + Copy + Send + Sync, Q: BlockSearch<Alloc = A, Scratch: Send>
     Q,
 > {
     ghost use Rattle.pg_plan.specs.Plan.{Step, is_open};
-    ghost use Rattle.pg_round.specs.Reading.{HasGoneOn};
+    ghost use Rattle.pg_reader.specs.Going.{HasGoneOn};
     ghost use Rattle.pg_run.specs.Holding.{Aim, HasPlan, HasRoomInRound, HasSomePlan, BreaksOffInSearch};
     ghost use Rattle.pg_run.specs.Holding.{EmptiesRound, IsFinished, IsWrittenFirst, KeepsPlan};
 

@@ -6,15 +6,15 @@ ghost use Rattle.pg_base.specs.Sink.{Stream};
 ghost use Rattle.pg_run.specs.Told.{AddsFailure};
 ghost use Rattle.pg_run.specs.Holding.{Aim, HasRoomInRound};
 ghost use Rattle.pg_run.specs.Reading.{AwaitsLast, AwaitsMore, IsAtLastBlock, IsInSomeFile, IsReadingSomeFile};
-ghost use Rattle.pg_run.specs.Reading.{IsInsideFile, MayEndFile, BreaksOffInFile};
-ghost use Rattle.pg_run.specs.Reading.{EndsFile, OnlyReadsOn, StaysInFile};
-ghost use Rattle.pg_run.specs.declared.reader.ReadOutcome.TheVariants.{More};
+ghost use Rattle.pg_run.specs.Reading.{BreaksOffInFile, EndsFile, IsInsideFile, MayEndFile, StaysInFile};
+ghost use Rattle.pg_reader.specs.Reads.{OnlyReadsOn};
+ghost use Rattle.pg_reader.specs.declared.file_reader.ReadOutcome.TheVariants.{More};
 
 use crate::engine::{Engine, is_endless};
 use crate::fault::RunFault;
-use crate::reader::{FileReader, ReadOutcome};
 use pg_base::Sink;
 use pg_files::Files;
+use pg_reader::{FileReader, ReadOutcome};
 use pg_round::BlockSearch;
 use std::alloc::Allocator;
 use std::sync::Wait;
@@ -45,11 +45,12 @@ fn make_room<
     if !engine.is_full() {
         return Ok(());
     }
-    reader.ahead = if files.may_wait() {
+    let reads = if files.may_wait() {
         0
     } else {
         engine.reads_ahead()
     };
+    reader.read_ahead(reads);
     engine.search_round(rt, reader, files, out)
 }
 
@@ -283,7 +284,7 @@ pub(crate) fn read_file<
             return end_file(rt, engine, false, out);
         }
         read_once(rt, reader, engine, files, out)?;
-        match reader.came {
+        match reader.came() {
             ReadOutcome::More => {}
             ReadOutcome::End => return finish_file(rt, reader, engine, false, out),
             ReadOutcome::Failure => return finish_file(rt, reader, engine, true, out),

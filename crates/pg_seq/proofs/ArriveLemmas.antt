@@ -34,7 +34,7 @@ stranger_taken e = cc
 abbrev pub IsFor : List BlockData → ℕ → BlockData → Type 0
 IsFor bs k b = (x : BlockData) → slice_get bs k ≡ Some x → (x.file ≡ b.file) × (x.number ≡ b.number)
 
-own_key : (keys : List (ℕ × ℕ)) (b : BlockData) → is_taken ((b.file, b.number) ∷ keys) b ≡ true
+pub own_key : (keys : List (ℕ × ℕ)) (b : BlockData) → is_taken ((b.file, b.number) ∷ keys) b ≡ true
 own_key keys b =
     ap (λ t. (t && eqb b.number b.number) || is_taken keys b) (eq-eqb b.file b.file refl)
     ∙ ap (λ t. t || is_taken keys b) (eq-eqb b.number b.number refl)

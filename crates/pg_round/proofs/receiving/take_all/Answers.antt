@@ -3,7 +3,7 @@ use Rattle.std.proofs.lemmas.Result.{err_from_is_err_and}
 use Rattle.pg_selection.specs.Searched.{Searched}
 use Rattle.pg_round.specs.Receipts.{HasReceived, Takes}
 use Rattle.pg_round.proofs.ReceiptLemmas.{takes_none, takes_more}
-use Rattle.pg_round.proofs.ReadingLemmas.{gone_on_none, gone_on_more}
+use Rattle.pg_reader.proofs.GoingLemmas.{gone_on_none, gone_on_more}
 use Rattle.pg_round.proofs.receiving.take_all.Goals as goal
 
 pub loop-init : goal.loop-init

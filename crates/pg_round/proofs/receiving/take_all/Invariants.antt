@@ -1,5 +1,5 @@
 use Rattle.std.proofs.Common.{◌≡◌, Ok}
-use Rattle.pg_round.specs.Reading.{HasGoneOn}
+use Rattle.pg_reader.specs.Going.{HasGoneOn}
 use Rattle.pg_round.specs.Receipts.{HasReceived, Takes}
 use Rattle.pg_round.proofs.receiving.take_all.Given as goal
 

@@ -5,7 +5,7 @@ use Rattle.pg_selection.specs.Searched.{Searched}
 use Rattle.pg_workers.specs.Workers.{task_of, HasWorked, HasFinished, AreBack}
 use Rattle.pg_round.specs.Receipts.{HasReceived, Takes}
 use Rattle.pg_round.specs.declared.fault.RoundFault.{RoundFault}
-use Rattle.pg_round.proofs.ReadingLemmas.{gone_on_none}
+use Rattle.pg_reader.proofs.GoingLemmas.{gone_on_none}
 use Rattle.pg_round.proofs.ReceiptLemmas.{takes_none, takes_fault, takes_value}
 use Rattle.pg_round.proofs.searching.search_beside.Goals as goal
 

@@ -1,7 +1,7 @@
 use Rattle.std.proofs.Common.{◌∙◌, ap, sym, subst, arith, ℕ, ◌≡◌, ◌+◌, ◌<◌, ◌≤◌}
 use Rattle.std.proofs.lemmas.Result.{err_from_is_err_and}
 use Rattle.pg_workers.specs.Workers.{AreBack}
-use Rattle.pg_round.proofs.ReadingLemmas.{gone_on_none}
+use Rattle.pg_reader.proofs.GoingLemmas.{gone_on_none}
 use Rattle.pg_round.proofs.ReceiptLemmas.{takes_no_memory, takes_fault, takes_refused, takes_round}
 use Rattle.pg_round.proofs.searching.search_round.Goals as goal
 

@@ -1,8 +1,9 @@
 use Rattle.std.proofs.Common.{◌∙◌, false, true, ap, sym}
 use Rattle.pg_base.specs.Entries.{is_failed}
-use Rattle.pg_run.specs.Reading.{ending_after}
+use Rattle.pg_reader.specs.Reads.{ending_after}
 use Rattle.pg_run.proofs.HoldLemmas.{fails_by}
-use Rattle.pg_run.proofs.ReadingLemmas.{may_leave, told_more, refused_last, then_reads}
+use Rattle.pg_reader.proofs.ReadLemmas.{then_reads}
+use Rattle.pg_run.proofs.ReadingLemmas.{may_leave, told_more, refused_last}
 use Rattle.pg_run.proofs.reading.read_file.Goals as goal
 
 pub end_file-requires-clause-may_end : goal.end_file-requires-clause-may_end
@@ -53,7 +54,7 @@ loop-preserved g c =
     record {
       can_next = tt;
       is_finite = tt;
-      awaits = (c.in-More.is, ok.taken.0);
+      awaits = (sym c.came.ensures ∙ c.in-More.is, ok.taken.0);
       reads_on = then_reads i.reads_on ok.reads_on;
       reads = λ aim start. ok.outcome aim (c.in_ok-settle.ensures.outcome _ aim (c.loop.invariant.reads aim start));
     }
@@ -63,7 +64,8 @@ finish_file-requires-clause-last g c κs within =
     let ok = c.in_ok-read_once.ensures in
     let r = c.requires.in_file in
     let h = ok.outcome r.0 (c.in_ok-settle.ensures.outcome _ r.0 (c.loop.invariant.reads r.0 r.1)) in
-    record { ended = ap ending_after c.in-End.is; room = ok.taken.1; in_file = (r.0, _, ok.taken.0, h) }
+    let came = sym c.came.ensures ∙ c.in-End.is in
+    record { ended = ap ending_after came; room = ok.taken.1; in_file = (r.0, _, ok.taken.0, h) }
 
 pub returns-in-End-clause-reads_on : goal.returns-in-End-clause-reads_on
 returns-in-End-clause-reads_on g c = then_reads c.loop.invariant.reads_on c.in_ok-read_once.ensures.reads_on
@@ -73,7 +75,8 @@ returns-in-End-clause-told g c =
     let ok = c.in_ok-read_once.ensures in
     let r = c.requires.in_file in
     let h = ok.outcome r.0 (c.in_ok-settle.ensures.outcome _ r.0 (c.loop.invariant.reads r.0 r.1)) in
-    told_more r.1.cuts h.cuts false c.requires.awaits.0 (ap (λ x. is_failed (ending_after x)) c.in-End.is)
+    let came = sym c.came.ensures ∙ c.in-End.is in
+    told_more r.1.cuts h.cuts false c.requires.awaits.0 (ap (λ x. is_failed (ending_after x)) came)
     (then_reads c.loop.invariant.reads_on ok.reads_on).before c.finish_file.result c.finish_file.ensures.failed
 
 pub returns-in-End-clause-outcome : goal.returns-in-End-clause-outcome
@@ -86,7 +89,8 @@ finish_file-requires-in-Failure-clause-last g c κs within =
     let ok = c.in_ok-read_once.ensures in
     let r = c.requires.in_file in
     let h = ok.outcome r.0 (c.in_ok-settle.ensures.outcome _ r.0 (c.loop.invariant.reads r.0 r.1)) in
-    record { ended = ap ending_after c.in-Failure.is; room = ok.taken.1; in_file = (r.0, _, ok.taken.0, h) }
+    let came = sym c.came.ensures ∙ c.in-Failure.is in
+    record { ended = ap ending_after came; room = ok.taken.1; in_file = (r.0, _, ok.taken.0, h) }
 
 pub returns-in-Failure-clause-reads_on : goal.returns-in-Failure-clause-reads_on
 returns-in-Failure-clause-reads_on g c = then_reads c.loop.invariant.reads_on c.in_ok-read_once.ensures.reads_on
@@ -97,7 +101,8 @@ returns-in-Failure-clause-told g c =
     let r = c.requires.in_file in
     let h = ok.outcome r.0 (c.in_ok-settle.ensures.outcome _ r.0 (c.loop.invariant.reads r.0 r.1)) in
     let ends = c.finish_file-in-Failure in
-    told_more r.1.cuts h.cuts true c.requires.awaits.0 (ap (λ x. is_failed (ending_after x)) c.in-Failure.is)
+    let came = sym c.came.ensures ∙ c.in-Failure.is in
+    told_more r.1.cuts h.cuts true c.requires.awaits.0 (ap (λ x. is_failed (ending_after x)) came)
     (then_reads c.loop.invariant.reads_on ok.reads_on).before ends.result ends.ensures.failed
 
 pub returns-in-Failure-clause-outcome : goal.returns-in-Failure-clause-outcome
@@ -123,7 +128,8 @@ returns-in-Refused-clause-outcome g c = λ aim start.
     let h = c.in_ok-read_once.ensures.outcome aim
     (c.in_ok-settle.ensures.outcome _ aim (c.loop.invariant.reads aim start)) in
     let out' = g.W.Sink.stream c.break_off.new.out in
-    refused_last h out' c.in-Refused.fault c.from-fault.result c.break_off.result c.in-Refused.is c.from-fault.ensures
+    refused_last h out' c.in-Refused.fault c.from-fault.result c.break_off.result
+    (sym c.came.ensures ∙ c.in-Refused.is) c.from-fault.ensures
     (c.break_off.ensures aim h.steps h.holds)
 
 pub settle-requires-clause-in_file : goal.settle-requires-clause-in_file

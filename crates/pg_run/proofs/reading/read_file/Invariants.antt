@@ -1,5 +1,6 @@
 use Rattle.pg_run.specs.Holding.{Aim}
-use Rattle.pg_run.specs.Reading.{AwaitsMore, IsInsideFile, OnlyReadsOn}
+use Rattle.pg_reader.specs.Reads.{OnlyReadsOn}
+use Rattle.pg_run.specs.Reading.{AwaitsMore, IsInsideFile}
 use Rattle.pg_run.proofs.reading.read_file.Given as goal
 
 abbrev pub invariant-loop : goal.invariant-loop

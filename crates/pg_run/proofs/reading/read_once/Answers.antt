@@ -1,6 +1,8 @@
 use Rattle.std.proofs.Common.{◌∙◌}
-use Rattle.pg_run.proofs.HoldLemmas.{ok_of_err, fails_by}
-use Rattle.pg_run.proofs.ReadingLemmas.{read_on, then_reads}
+use Rattle.pg_run.proofs.HoldLemmas.{fails_by}
+use Rattle.pg_reader.proofs.ReadLemmas.{then_reads}
+use Rattle.pg_run.proofs.ReadingLemmas.{has_fed, read_on}
+use Rattle.pg_base.proofs.SinkLemmas.{ok_of_err}
 use Rattle.pg_run.proofs.reading.read_once.Goals as goal
 
 pub read-requires : goal.read-requires
@@ -8,7 +10,7 @@ read-requires g c =
     let r = c.requires.in_file in
     let given = (g.F.Files.past c.args.files.now).given in
     let h = c.recycle.ensures.in_file r.0 given (g.W.Sink.stream c.args.out.now) r.1 in
-    record { more = c.recycle.ensures.came ∙ c.requires.more; cut = (r.0, h.steps, h.cuts) }
+    record { more = c.recycle.ensures.came ∙ c.requires.more; fed = (h.cuts.fed, h.cuts.lost, has_fed h.cuts) }
 
 pub search_ready-requires-clause-in_file : goal.search_ready-requires-clause-in_file
 search_ready-requires-clause-in_file g c κs within =

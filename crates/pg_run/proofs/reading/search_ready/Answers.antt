@@ -1,6 +1,8 @@
-use Rattle.pg_run.proofs.HoldLemmas.{ok_of_err, fails_by}
+use Rattle.pg_run.proofs.HoldLemmas.{fails_by}
 use Rattle.pg_run.proofs.BlockLemmas.{gives_next}
-use Rattle.pg_run.proofs.ReadingLemmas.{next_may, next_breaks, next_taken, none_taken, then_reads}
+use Rattle.pg_reader.proofs.ReadLemmas.{then_reads}
+use Rattle.pg_run.proofs.ReadingLemmas.{next_may, next_breaks, next_taken, none_taken}
+use Rattle.pg_base.proofs.SinkLemmas.{ok_of_err}
 use Rattle.pg_run.proofs.reading.search_ready.Goals as goal
 
 pub make_room-requires-clause-in_file : goal.make_room-requires-clause-in_file

@@ -7,7 +7,7 @@ use Rattle.pg_base.specs.Causes.{fault_line}
 use Rattle.pg_run.specs.Reading.{BreaksOffTold}
 use Rattle.pg_run.specs.declared.fault.RunFault.TheVariants.{OutOfMemory}
 use Rattle.pg_run.proofs.HoldLemmas.{fails_by}
-use Rattle.pg_run.proofs.ReadingLemmas.{reads_none}
+use Rattle.pg_reader.proofs.ReadLemmas.{reads_none}
 use Rattle.pg_run.proofs.RunLemmas.{told_by, told_same, told_failed, told_unfailed, stops_telling, stops_memory}
 use Rattle.pg_run.proofs.RunLemmas.{stops_reading, unnumbered, unopened_safe, taken_part, between_safe, file_started}
 use Rattle.pg_run.proofs.running.one_file.Goals as goal

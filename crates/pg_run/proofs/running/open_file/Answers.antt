@@ -1,7 +1,8 @@
 use Rattle.std.proofs.Common.{arith}
-use Rattle.pg_run.proofs.ReadingLemmas.{stands_by, drained_by}
+use Rattle.pg_reader.proofs.ReadLemmas.{stands_by}
+use Rattle.pg_run.proofs.ReadingLemmas.{drained_by}
 use Rattle.pg_run.proofs.RunLemmas.{file_opened}
-use Rattle.pg_run.proofs.HoldLemmas.{ok_of_err}
+use Rattle.pg_base.proofs.SinkLemmas.{ok_of_err}
 use Rattle.pg_run.proofs.running.open_file.Goals as goal
 
 pub open-requires-clause-ready : goal.open-requires-clause-ready

@@ -7,7 +7,8 @@ use Rattle.pg_plan.specs.Plan.{Announces, MayFollow}
 use Rattle.pg_plan.specs.History.{plan, planned}
 use Rattle.pg_seq.specs.Standing.{IsAfter}
 use Rattle.pg_run.specs.Holding.{past_of, format_of}
-use Rattle.pg_run.proofs.HoldLemmas.{may_past, ok_of_err, holds_waiting}
+use Rattle.pg_run.proofs.HoldLemmas.{may_past, holds_waiting}
+use Rattle.pg_base.proofs.SinkLemmas.{ok_of_err}
 use Rattle.pg_run.proofs.engine.Engine.add.Goals as goal
 
 pub returns : goal.returns

@@ -1,7 +1,8 @@
 use Rattle.std.proofs.Common.{ap, map, refl}
 use Rattle.std.specs.Arc.{arc_value}
 use Rattle.pg_run.specs.Holding.{past_of, format_of}
-use Rattle.pg_run.proofs.HoldLemmas.{holds_drained, broke_drained, fails_by, ok_of_err}
+use Rattle.pg_run.proofs.HoldLemmas.{holds_drained, broke_drained, fails_by}
+use Rattle.pg_base.proofs.SinkLemmas.{ok_of_err}
 use Rattle.pg_run.proofs.engine.Engine.drain.Goals as goal
 
 pub returns-clause-empties : goal.returns-clause-empties

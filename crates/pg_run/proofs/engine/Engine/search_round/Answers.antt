@@ -7,9 +7,10 @@ use Rattle.pg_seq.specs.Standing.{IsAfter}
 use Rattle.pg_run.specs.Holding.{past_of, format_of}
 use Rattle.pg_run.specs.Searches.{AreScratches}
 use Rattle.pg_round.specs.Receipts.{HasRound}
-use Rattle.pg_round.proofs.ReadingLemmas.{gone_on_none}
-use Rattle.pg_run.proofs.HoldLemmas.{broke_now, ok_of_err, fails_by}
+use Rattle.pg_reader.proofs.GoingLemmas.{gone_on_none}
+use Rattle.pg_run.proofs.HoldLemmas.{broke_now, fails_by}
 use Rattle.pg_run.proofs.RoundLemmas.{short_round, safe_now, round_done, round_failed}
+use Rattle.pg_base.proofs.SinkLemmas.{ok_of_err}
 use Rattle.pg_run.proofs.engine.Engine.search_round.Goals as goal
 
 pub search_round-requires-clause-may : goal.search_round-requires-clause-may

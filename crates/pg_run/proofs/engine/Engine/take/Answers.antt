@@ -6,7 +6,8 @@ use Rattle.pg_plan.specs.Plan.{Announces, MayFollow}
 use Rattle.pg_plan.specs.History.{plan, planned}
 use Rattle.pg_seq.specs.Standing.{IsAfter}
 use Rattle.pg_run.specs.Holding.{past_of, format_of}
-use Rattle.pg_run.proofs.HoldLemmas.{may_past, is_first, holds_block, ok_of_err}
+use Rattle.pg_run.proofs.HoldLemmas.{may_past, is_first, holds_block}
+use Rattle.pg_base.proofs.SinkLemmas.{ok_of_err}
 use Rattle.pg_run.proofs.engine.Engine.take.Goals as goal
 
 pub keep-requires : goal.keep-requires

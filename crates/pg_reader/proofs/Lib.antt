@@ -1,0 +1,3 @@
+pub mod GivenLemmas
+pub mod GoingLemmas
+pub mod ReadLemmas

@@ -1,0 +1,11 @@
+use Rattle.std.proofs.Common.{refl}
+use Rattle.pg_reader.proofs.ReadLemmas.{has_stayed, reads_further, same_fed}
+use Rattle.pg_reader.proofs.file_reader.FileReader.read.Goals as goal
+
+pub read_copied-requires-clause-reading : goal.read_copied-requires-clause-reading
+read_copied-requires-clause-reading g c =
+    let r = c.requires.fed in
+    record { more = c.requires.more; fed = (r.0, r.1, same_fed r.2 _ r.2.cut refl) }
+
+pub returns : goal.returns
+returns g c = reads_further (has_stayed _ (λ fed stands. stands) refl) c.read_copied.ensures
