@@ -101,7 +101,6 @@ left_lines aim steps given name front rest room r out e =
       name = name;
       front = front;
       rest = rest;
-      ending = Left;
       earlier = r.before;
       newest = r.given_is;
       whole = left_whole q format name front rest (entries_of steps) (entries_given given) r;

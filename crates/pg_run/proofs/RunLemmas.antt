@@ -40,6 +40,7 @@ use Rattle.pg_run.specs.declared.setup.Setup.{Setup}
 use Rattle.pg_run.specs.declared.fault.RunFault.{RunFault}
 use Rattle.pg_run.specs.declared.fault.RunFault.TheVariants.{OutOfMemory, Sink, TooManyFiles, TooLong}
 use Rattle.pg_run.proofs.CoverLemmas.{follows_begins, covers_alike, covers_same, covers_left, later_begins}
+use Rattle.pg_run.proofs.GivenLemmas.{newest_told}
 use Rattle.pg_run.proofs.StepLemmas.{opens, misses}
 use Rattle.pg_run.proofs.HoldLemmas.{room_of, shaped_of}
 use Rattle.pg_run.proofs.ReadingLemmas.{safe_by, read_cause, none_at_fault, none_failed, takes_all}
@@ -115,6 +116,13 @@ faults_grow : (given given' : List Given) → drop 1 given' ≡ given
 faults_grow given [] e = ([], ap (λ gs. faults_of gs ++ []) e)
 faults_grow given (g ∷ given') e = (fault_of g, ap (λ gs. faults_of gs ++ fault_of g) e)
 
+-- a file that was left has no line
+left_untold : (given given' : List Given) (name bytes : List ℕ) (earlier : List Entry) → drop 1 given' ≡ given
+    → entries_given given' ≡ Read name bytes Left ∷ earlier → faults_of given' ≡ faults_of given
+left_untold given given' name bytes earlier before newest =
+    newest_told given' name bytes Left earlier newest
+    ∙ (append-nil (faults_of (drop 1 given')) ∙ ap faults_of before)
+
 -- a file that was read further, by whether its reading failed
 told_read : (given before given' : List Given) (failed : Bool) → GaveFile given before
     → AddsFailure before given' failed → AddsFailure given given' failed
@@ -156,6 +164,10 @@ stops_reading aim given given' out told fault b t before =
       written = b.written;
       lines = b.lines;
       faults = part_before aim given given' told grown.0 t grown.1;
+      told = λ of.
+          let file = b.lines of in
+          t.all ∙ ap (λ xs. aim.told.taken ++ when (not aim.setup.silent) xs)
+          (sym (left_untold given given' file.name (file.front ++ file.rest) file.earlier before file.newest));
       calm = (b.calm, none_failed fault aim.told told t.calm);
     }
 
@@ -169,6 +181,7 @@ stops_telling aim given given' out told told' silent line set safe t e w = recor
   written = safe;
   lines = λ of. absurd of;
   faults = part_told aim given given' told told' silent line set t e w.part;
+  told = λ of. absurd of;
   calm = (tt, tt);
 }
 
@@ -180,6 +193,7 @@ stops_memory aim given out told safe calm t = record {
   written = safe;
   lines = λ of. absurd of;
   faults = told_all aim given told t;
+  told = λ of. absurd of;
   calm = (calm, t.calm);
 }
 
@@ -321,7 +335,6 @@ module _ {A Q C : Type 0} {asks : Ghosts Q A C} {engine : Engine A Q C asks} {ai
         name = name;
         front = [];
         rest = [];
-        ending = Left;
         earlier = before;
         newest = refl;
         whole = inl refl;

@@ -66,14 +66,13 @@ HasCause Sink q setup given out out' told told' = (out.failures < out'.failures)
 HasCause TooManyFiles q setup given out out' told told' = 2 ^ 32 - 1 < files_given given
 HasCause TooLong q setup given out out' told told' = IsTooLong (terminator q) setup.line given
 
--- The output is that of what was given before the newest file, and of some whole lines at its front.
+-- The output is that of what was given before the newest file, which was left, and of some whole lines at its front.
 pub record GotWholeLines (q : Search) (format : Format) (given : List Entry) (out out' : Stream) : Type 0 where
   pub name : List ℕ
   pub front : List ℕ
   pub rest : List ℕ
-  pub ending : Ending
   pub earlier : List Entry
-  pub newest : given ≡ Read name (front ++ rest) ending ∷ earlier
+  pub newest : given ≡ Read name (front ++ rest) Left ∷ earlier
   pub whole : AreWhole (terminator q) front
   pub written : out'.taken ≡ out.taken ++ output q format (Read name front Running ∷ earlier)
 
@@ -93,7 +92,7 @@ NoneFailed TooLong before after = after.failures ≡ before.failures
 
 -- A run stopped by a fault that has its cause: its output is a beginning of that of every list of files that goes on
 -- from what was given, and the fault lines are a beginning of those of what was given. Where a file is at fault,
--- nothing is lost of those before it.
+-- nothing is lost of those before it, neither rows nor fault lines.
 pub record HasStopped (q : Search) (setup : Setup) (given : List Given) (out out' told told' : Stream)
     (fault : RunFault) : Type 0 where
   pub cause : HasCause fault q setup given out out' told told'
@@ -101,6 +100,7 @@ pub record HasStopped (q : Search) (setup : Setup) (given : List Given) (out out
       TakesPart (output q setup.format files) out.taken out'.taken
   pub lines : IsOfAFile fault → GotWholeLines q setup.format (entries_given given) out out'
   pub faults : TakesPart (told_of setup.silent given) told.taken told'.taken
+  pub told : IsOfAFile fault → told'.taken ≡ told.taken ++ told_of setup.silent given
   pub calm : NoneFailed fault out out' × NoneFailed fault told told'
 
 -- Each file before the newest was read to its end, but where lines at its front were enough, and with -q no line of
