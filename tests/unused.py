@@ -21,14 +21,20 @@ BEGINS = re.compile(
 COMMENT = re.compile(r"(?:^|(?<= ))--(?: .*|$)", re.M)
 WORD = re.compile(r"[^\s(){}\[\],;.λ×⊎]+")
 IMPORT = re.compile(r"^ *(pub )?(?:ghost )?use (Rattle\.[\w.]+?)(?:\.\{([^}]*)\}| as (\w+))?;?$", re.M)
+# A name of a module that is imported whole, by what the module is called there.
+QUALIFIED = re.compile(r"\b[A-Za-z]\w*\.[A-Za-z_][\w'≡≢-]*")
 KEYWORDS = {"use", "module", "where", "let", "in", "if", "then", "else", "elim", "unfolding", "within", "rw"}
+
+
+def words_of(text):
+    return {*WORD.findall(text), *QUALIFIED.findall(text)}
 
 
 class Item:
     """A definition or lemma: its module and name, where it stands, and the words of it."""
 
     def __init__(self, module, name, place, text):
-        self.key, self.place, self.words = (module, name), place, set(WORD.findall(text))
+        self.key, self.place, self.words = (module, name), place, words_of(text)
 
 
 class Source:
@@ -43,7 +49,7 @@ class Source:
         text = comment.sub("", text)
         self.imports = IMPORT.findall(text)
         text = IMPORT.sub(lambda it: "\n" * it[0].count("\n"), text)
-        self.items, self.outside = [], set(WORD.findall(text))
+        self.items, self.outside = [], words_of(text)
         if path.suffix == ".antt":
             self.divide(text.split("\n"))
 
@@ -62,7 +68,7 @@ class Source:
             place = f"{self.path}:{number + 1}"
             self.items.append(Item(self.module, begun[3], place, "\n".join(lines[number:end])))
             number = end
-        self.outside = set(WORD.findall("\n".join(outside)))
+        self.outside = words_of("\n".join(outside))
 
     def is_specs(self):
         return "specs" in self.parts
@@ -118,7 +124,7 @@ class Names:
             if names:
                 table |= {shown: self.origin((module, name)) for name, shown in pairs(names)}
             elif alias:
-                table |= {name: (module, name) for name in self.by_module[module] if name not in table}
+                table |= {f"{alias}.{name}": (module, name) for name in self.by_module[module]}
         return table | {it.key[1]: it.key for it in source.items}
 
 

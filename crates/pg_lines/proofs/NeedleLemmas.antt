@@ -106,6 +106,24 @@ plain_end text true = zero_or_newline text.zero
     zero_or_newline true = refl
     zero_or_newline false = refl
 
+-- a needle stays ahead of later places
+ahead_later : (searched : List ℕ) (at later : ℕ) (needles : List Needle) → at ≤ later
+    → All (IsAhead searched at) needles → All (IsAhead searched later) needles
+ahead_later searched at later needles low all =
+    All-weaker (IsAhead searched at) (IsAhead searched later) (λ n is. record {
+      stands = is.stands;
+      first = λ k from o. is.first k (omega arith) o;
+    }) needles all
+
+pub needles_later : {A : Type 0} (text : SearchText) (bytes : List ℕ) (at later : ℕ) (needles : NeedleList A)
+    → at ≤ later
+    → IsNeedleList text bytes at needles → IsNeedleList text bytes later needles
+needles_later text bytes at later needles low are = record {
+  literals = are.literals;
+  searched = are.searched;
+  ahead = ahead_later needles.searched.now at later needles.needles.items low are.ahead;
+}
+
 -- a literal of the needles is that of one
 of_needle : (needles : List Needle) (l : LiteralData) → Contains (map literal_of needles) l
     → (n : Needle) × Contains needles n × (literal_of n ≡ l)
