@@ -1,5 +1,5 @@
 -- A text that is written part by part. Serves `write_each`.
-use Rattle.std.proofs.Common.{◌≡◌, ℕ, ◌+◌, ◌<◌, List, length, drop, get_or, ap}
+use Rattle.std.proofs.Common.{ℕ, ◌+◌, ◌<◌, List, length, drop, get_or, ap}
 use Rattle.std.proofs.lemmas.List.{drop_more}
 use Rattle.std.specs.List.{flat_map}
 use Rattle.pg_base.specs.Sink.{Stream, WritesAll, WritesPart}

@@ -3,9 +3,7 @@ use Rattle.std.proofs.Common.{◌≡◌, ℕ, ◌+◌, ◌-◌, ◌<◌, ◌≤�
 use Rattle.std.proofs.Common.{drop}
 use Rattle.std.proofs.Common.{sym, ap, ◌∙◌, arith, append_assoc, length-append, length-drop, Result, Ok, Err, is_ok}
 use Rattle.std.proofs.lemmas.List.{take-append-le, length-take-le, append-nil, nil_from_length, take_all}
-use Rattle.std.proofs.lemmas.List.{take-take, length-take, drop-take}
-use Rattle.std.proofs.lemmas.List.Edits.{take-paste, length-paste}
-use Rattle.std.specs.List.{copy_within}
+use Rattle.std.proofs.lemmas.List.{take-take, length-take}
 use Rattle.std.specs.Prelude.{IfOk, OnOk}
 use Rattle.std.proofs.Math.Seq.{take-length, take-append_seam, drop-append_seam}
 use Rattle.std.specs.Vec.{with_items_from}

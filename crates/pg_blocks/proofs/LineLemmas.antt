@@ -1,11 +1,11 @@
 -- The lines of bytes, one byte at a time, and where each stands.
-use Rattle.std.proofs.Common.{cond, slice_range, ◌≡◌, ◌≢◌, ℕ, zero, suc, ◌+◌, ◌-◌, ◌<◌, ◌≤◌, inl, inr, Bool, true}
+use Rattle.std.proofs.Common.{cond, ◌≡◌, ◌≢◌, ℕ, zero, suc, ◌+◌, ◌-◌, ◌<◌, ◌≤◌, inl, inr, Bool, true}
 use Rattle.std.proofs.Common.{false, eqb, List, [], ◌∷◌, ◌++◌, length, take, drop, get_or, refl, sym, ap, ◌∙◌, subst}
 use Rattle.std.proofs.Common.{arith, append_assoc, length-append}
 use Rattle.std.proofs.lemmas.Bool.Decides.{Decides-eqb}
 use Rattle.std.proofs.lemmas.Bool.{false≢true, eq-eqb, ne_eqb, eqb-true}
 use Rattle.std.specs.List.{onto_first}
-use Rattle.std.proofs.lemmas.List.{take_at, drop_at, drop_more, get_or-take, get_or-drop, get_or_default}
+use Rattle.std.proofs.lemmas.List.{drop_more, get_or-take, get_or-drop, get_or_default}
 use Rattle.std.proofs.lemmas.List.{take-append-drop, length-take-le, take_all, append-nil}
 use Rattle.std.proofs.Common.{Some, None}
 use Rattle.memchr.specs.Find.{IsFirstByte, is_byte, Passes, Nowhere}

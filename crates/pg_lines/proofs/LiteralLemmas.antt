@@ -1,7 +1,7 @@
 -- The literals of a query.
-use Rattle.std.proofs.Common.{◌<◌, ℕ, zero, suc, IsTrue, List, [], ◌∷◌, length, map, refl, sym, ap, ◌∙◌, subst, arith}
-use Rattle.std.specs.List.{All, Any}
-use Rattle.std.proofs.lemmas.List.{length-map, get_or-map}
+use Rattle.std.proofs.Common.{◌<◌, ℕ, IsTrue, List, [], length, map, subst, arith}
+use Rattle.std.specs.List.{All}
+use Rattle.std.proofs.lemmas.List.{length-map}
 use Rattle.std.proofs.lemmas.List.Elements.{All-map, All-weaker}
 use Rattle.pg_literal.specs.Literals as P
 use Rattle.pg_literal.specs.Literals.{Holds}
@@ -11,7 +11,7 @@ use Rattle.pg_blocks.specs.Lines.{IsLine}
 use Rattle.pg_selection.specs.Search.{SearchText, Pattern, AreTreesOf, bounds_of, terminator_of}
 use Rattle.pg_selection.proofs.TreeLemmas.{same_trees}
 use Rattle.pg_lines.specs.Literals.{data_of, IsEnough, AreLiterals}
-use Rattle.pg_literal.proofs.RowLemmas.{any-map, any-unmap}
+use Rattle.pg_literal.proofs.RowLemmas.{any-map}
 
 -- texts that are needed, and perhaps enough, for the patterns
 pub literals_are : {A : Type 0} (text : SearchText) (trees : List Pattern) → AreTreesOf text trees

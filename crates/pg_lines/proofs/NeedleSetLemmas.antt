@@ -20,7 +20,7 @@ use Rattle.pg_literal.specs.declared.literal.Literal.{Literal}
 use Rattle.pg_lines.specs.declared.literal_set.LiteralSet.{LiteralSet}
 use Rattle.pg_lines.specs.Literals.{LiteralData, flagged, set_literals, data_of, IsEnough, AreLiterals}
 use Rattle.pg_lines.specs.Candidates.{AreWithout, IsFirstWith}
-use Rattle.pg_lines.proofs.NeedleLemmas.{occurs_whole, occurs_part, searched_behind, searched_length, whole_place, part_place}
+use Rattle.pg_lines.proofs.NeedleLemmas.{searched_length, whole_place, part_place}
 use Rattle.pg_lines.proofs.RunLemmas.{NoneBefore, nowhere_lines, without_each, line_around, place_below, line_some}
 use Rattle.pg_literal.proofs.RowLemmas.{any-map, any-unmap}
 

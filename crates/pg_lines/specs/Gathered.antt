@@ -1,11 +1,9 @@
 -- What a search has found in a block so far.
-use Rattle.std.specs.Prelude.{◌≡◌, ℕ, ◌+◌, ◌⊎◌, true, if◌then◌else◌, List, [], ◌++◌, length, take}
+use Rattle.std.specs.Prelude.{◌≡◌, ℕ, ◌+◌, ◌⊎◌, true, List, [], ◌++◌, length}
 use Rattle.pg_blocks.specs.Lines.{lines, AreWhole}
 use Rattle.pg_selection.specs.Search.{Search, terminator}
 use Rattle.pg_selection.specs.Runs.{AllLines, IsNextRun, AreRuns}
-use Rattle.pg_selection.specs.BlockParts.{parts_of_lines}
 use Rattle.pg_selection.specs.declared.run.Run.{Run}
-use Rattle.pg_selection.specs.declared.run.Part.{Part}
 use Rattle.pg_blocks.specs.declared.span.Span.{Span}
 
 -- the first selected line in bytes that stand from a place on: a run of one line

@@ -21,9 +21,8 @@ use Rattle.pg_match.specs.declared.dfa_cache.Cache.{Cache}
 use Rattle.pg_match.specs.declared.state.State.{State}
 use Rattle.pg_match.proofs.CacheLemmas.{answers_same, nothing_known, row_of, at_row, same_back, same_on, sets_keep}
 use Rattle.pg_match.proofs.CacheLemmas.{sets_shape, starts_same}
-use Rattle.pg_match.proofs.SearchLemmas.{edge_moves}
 use Rattle.pg_match.proofs.SkimLemmas.{no_cross}
-use Rattle.pg_match.proofs.StandsLemmas.{reads_edge, edge_reads, ends_here, ends_at_last, crossing}
+use Rattle.pg_match.proofs.StandsLemmas.{reads_edge, ends_here, ends_at_last, crossing}
 use Rattle.pg_match.proofs.StepLemmas.{edge_still}
 use Rattle.pg_match.specs.Closures.{Leads}
 

@@ -2,9 +2,8 @@
 use Rattle.std.specs.Prelude.{◌≡◌, ℕ, zero, suc, ◌+◌, ◌*◌, ◌<◌, ◌≤◌, ◌⊎◌, ◌↔◌, Bool, true, false, List, length, Some}
 use Rattle.std.specs.Prelude.{slice_get, slice_index}
 use Rattle.std.specs.Prelude.{Option, None}
-use Rattle.pg_match.specs.Automata.{Nfa, Edge, Runs}
+use Rattle.pg_match.specs.Automata.{Nfa}
 use Rattle.pg_pattern.specs.Bounds.{MayBegin, MayEnd}
-use Rattle.pg_match.specs.Closures.{Leads}
 use Rattle.pg_match.specs.Memories.{Remembered, In, IsShape, IsUnknown, fresh_at, ended}
 use Rattle.pg_match.specs.Steps.{Reads, LeadsStill, IsStill, Starts, ReadsNone, AnswersEnd}
 use Rattle.pg_match.specs.Searches.{IsBest, RunsFrom}

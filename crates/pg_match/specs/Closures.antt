@@ -1,5 +1,5 @@
 -- How the set of a position is made.
-use Rattle.std.specs.Prelude.{◌≡◌, ◌≢◌, ℕ, zero, suc, ◌+◌, ◌<◌, ◌≤◌, ◌⊎◌, List, length, slice_get, slice_index}
+use Rattle.std.specs.Prelude.{◌≡◌, ◌≢◌, ℕ, zero, suc, ◌+◌, ◌<◌, ◌≤◌, List, length, slice_get, slice_index}
 use Rattle.pg_match.specs.Automata.{Edge, Runs}
 use Rattle.pg_match.specs.StateSets.{Members, mark, listed, IsGood, Counted}
 use Rattle.pg_match.specs.declared.state.State.{State}

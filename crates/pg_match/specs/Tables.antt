@@ -1,6 +1,6 @@
 -- How a table of states grows by the states of a pattern.
 use Rattle.std.specs.Prelude.{◌≡◌, ◌≢◌, ℕ, zero, suc, ◌+◌, ◌-◌, ◌*◌, ◌<◌, [], ◌∷◌, ◌++◌}
-use Rattle.std.specs.Prelude.{List, length, take, sum_by, Option, Some, None, slice_get}
+use Rattle.std.specs.Prelude.{List, length, Option, Some, None, slice_get}
 use Rattle.pg_bytes.specs.ByteSets.{bytes}
 use Rattle.pg_bytes.specs.declared.byte_set.ByteSet.{ByteSet}
 use Rattle.pg_pattern.specs.Patterns.{Pattern, Empty, Set, Begin, End, Cat, Alt, Rep}

@@ -1,9 +1,8 @@
 -- Where a sequencer stands in the output of a plan, step by step.
-use Rattle.std.specs.Prelude.{ℕ, ◌||◌, List, [], ◌∷◌}
+use Rattle.std.specs.Prelude.{◌||◌, List, [], ◌∷◌}
 use Rattle.pg_selection.specs.Search.{Search, terminator}
 use Rattle.pg_blocks.specs.Lines.{lines}
 use Rattle.pg_rows.specs.declared.format.Format.{Format}
-use Rattle.pg_rows.specs.Modes.{rows_in}
 use Rattle.pg_rows.specs.Trail.{no_lines, run}
 pub use Rattle.pg_rows.specs.Cursor.{Cursor, at_start, block_rows, counted, named}
 use Rattle.pg_plan.specs.Plan.{Step, Opens, Announces, Ends, Misses}

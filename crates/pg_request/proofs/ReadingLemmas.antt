@@ -2,8 +2,7 @@
 use Rattle.std.proofs.Common.{◌≡◌, ◌∙◌, ◌+◌, ◌<◌, List, [], ◌∷◌, ◌++◌, ℕ, length, take, drop, get_or}
 use Rattle.std.proofs.Common.{Result, Ok, Err, ap, subst, sym}
 use Rattle.std.specs.Borrow.{Bor}
-use Rattle.std.specs.Result.{IfErr, IsErr, IsErrAnd, OnOk}
-use Rattle.std.proofs.lemmas.Bool.{false≢true}
+use Rattle.std.specs.Result.{IfErr, IsErrAnd}
 use Rattle.pg_grammar.specs.Slices.{bytes_of}
 use Rattle.pg_grammar.proofs.ListLemmas.{texts-more, texts-whole}
 use Rattle.pg_base.specs.Entries.{Ended}

@@ -6,7 +6,7 @@ use Rattle.std.proofs.Common.{sym, ap}
 use Rattle.std.proofs.Common.{◌∙◌, subst, arith, append_assoc, length-append, length-drop}
 use Rattle.std.proofs.lemmas.Bool.{lt-ltb, le-ltb, cases_lt}
 use Rattle.std.proofs.lemmas.Bool.Decides.{nat_tests}
-use Rattle.std.proofs.lemmas.List.{drop-drop, drop_all, drop_more, length-take-le, take_at, take_rest}
+use Rattle.std.proofs.lemmas.List.{drop-drop, drop_more, length-take-le, take_at, take_rest}
 use Rattle.std.proofs.lemmas.List.Folds.{drop_split}
 use Rattle.std.proofs.Math.Seq.{drop-append_seam}
 use Rattle.pg_selection.specs.Search.{Search, terminator}
@@ -23,12 +23,12 @@ use Rattle.pg_rows.specs.Output.{painted, row, told_parts}
 use Rattle.pg_base.specs.Sink.{Stream}
 use Rattle.pg_rows.specs.Pieces.{told_of_lines}
 use Rattle.pg_rows.specs.Stretch.{AllSelected, marked_rows, plain}
-use Rattle.pg_rows.specs.Painting.{painted_bytes, AreAscending, AreToldParts, count_before}
+use Rattle.pg_rows.specs.Painting.{painted_bytes, AreAscending, count_before}
 use Rattle.pg_rows.proofs.FoldLemmas.{something, some_append}
 use Rattle.pg_rows.proofs.PieceLemmas.{Ascend, slice_in, told_ascend}
 use Rattle.pg_selection.proofs.RunLemmas.{lines_behind}
 use Rattle.pg_rows.proofs.RunSteps.{KeptTexts, next_texts}
-use Rattle.pg_base.proofs.WriteLemmas.{WritesAllBut, left_whole}
+use Rattle.pg_base.proofs.WriteLemmas.{WritesAllBut}
 
 -- The parts of one line.
 

@@ -1,17 +1,16 @@
 -- Rows of stretches of lines.
 use Rattle.std.proofs.Common.{◌≡◌, ℕ, suc, ◌+◌, ◌<◌, ◌⊎◌, inl, inr, Bool, true, false, cond, nat_lt, not, ◌&&◌, ◌||◌}
 use Rattle.std.proofs.Common.{List, [], ◌∷◌}
-use Rattle.std.proofs.Common.{◌++◌, ◌==◌, length}
+use Rattle.std.proofs.Common.{◌++◌, length}
 use Rattle.std.proofs.Common.{drop}
 use Rattle.std.proofs.Common.{get_or, refl, sym, ap, ◌∙◌, arith, append_assoc}
 use Rattle.std.specs.List.{flat_map, filter}
 use Rattle.std.specs.Fmt.{decimal}
-use Rattle.std.proofs.lemmas.Bool.Decides.{nat_tests}
 use Rattle.std.proofs.lemmas.List.{append-nil, drop_more}
 use Rattle.pg_blocks.specs.Lines.{terminated}
 use Rattle.pg_rows.specs.declared.format.Format.{Format}
 use Rattle.pg_selection.specs.declared.run.Part.{Part}
-use Rattle.pg_rows.specs.Colors.{in_color, name_color, number_color, mark_color, part_color}
+use Rattle.pg_rows.specs.Colors.{in_color, name_color, number_color, mark_color}
 use Rattle.pg_rows.specs.Output.{is_nothing, name_end, name_text, number_text, has_prefix, size_of, tab_before, when}
 use Rattle.pg_rows.specs.Output.{row}
 use Rattle.pg_rows.specs.Stretch.{has_text, marked_rows, plain, plain_prefix_text, prefix_text, part_row, part_rows}

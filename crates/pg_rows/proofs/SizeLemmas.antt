@@ -1,5 +1,5 @@
 -- How many bytes lines have, and where lines begin, for the offsets of rows.
-use Rattle.std.proofs.Common.{◌≡◌, ℕ, zero, suc, ◌+◌, ◌-◌, ◌≤◌, inl, inr, Bool, true, false, cond, nat_lt, List, []}
+use Rattle.std.proofs.Common.{◌≡◌, ℕ, zero, suc, ◌+◌, ◌-◌, ◌≤◌, inl, Bool, true, false, cond, nat_lt, List, []}
 use Rattle.std.proofs.Common.{◌∷◌}
 use Rattle.std.specs.List.{onto_first}
 use Rattle.std.proofs.Common.{◌==◌, ◌++◌, length, take, drop, refl, ap, ◌∙◌, arith, length-append}

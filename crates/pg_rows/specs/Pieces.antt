@@ -1,13 +1,10 @@
 -- The matched parts of a block, and up to which line they are shown.
-use Rattle.std.specs.Prelude.{◌≡◌, ℕ, ◌+◌, if◌then◌else◌, Option, List, [], ◌∷◌, ◌++◌, length, map}
-use Rattle.pg_selection.specs.Search.{Search, terminator}
+use Rattle.std.specs.Prelude.{ℕ, ◌+◌, if◌then◌else◌, Option, List, [], ◌∷◌, ◌++◌, length, map}
+use Rattle.pg_selection.specs.Search.{Search}
 use Rattle.pg_selection.specs.Selection.{selects}
-use Rattle.pg_blocks.specs.Lines.{lines}
-use Rattle.pg_selection.specs.BlockParts.{part_at, parts_of_lines}
-use Rattle.pg_selection.specs.declared.run.Run.{Run}
+use Rattle.pg_selection.specs.BlockParts.{part_at}
 use Rattle.pg_selection.specs.declared.run.Part.{Part}
 use Rattle.pg_rows.specs.Output.{is_below, told_parts}
-use Rattle.pg_rows.specs.Remembered.{HasLines}
 
 -- how many lines stand before the first selected one that isn't kept, where so many were kept before
 abbrev pub cut_at : Search → Option ℕ → ℕ → List (List ℕ) → ℕ

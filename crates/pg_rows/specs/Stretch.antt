@@ -1,16 +1,15 @@
 -- What whole stretches of lines leave remembered, and their rows.
-use Rattle.std.specs.Prelude.{◌≡◌, ℕ, ◌+◌, ◌-◌, ◌^◌, ◌<◌, ◌≤◌, nat_lt, Bool, true, false, ◌||◌, List, [], ◌∷◌, ◌++◌}
-use Rattle.std.specs.Prelude.{length, drop, not, slice_index_or, slice_range, Vec, vec_len, vec_capacity}
+use Rattle.std.specs.Prelude.{◌≡◌, ℕ, ◌+◌, ◌^◌, ◌<◌, ◌≤◌, nat_lt, Bool, false, List, [], ◌∷◌, ◌++◌}
+use Rattle.std.specs.Prelude.{length, not, slice_index_or, slice_range, Vec, vec_len, vec_capacity}
 use Rattle.std.specs.List.{AllByRecursion, flat_map, filter}
 use Rattle.std.specs.Fmt.{decimal}
-use Rattle.circular_buffer.specs.Buffer.{keep_last}
 use Rattle.pg_selection.specs.Search.{Search}
 use Rattle.pg_selection.specs.Selection.{selects}
 use Rattle.pg_selection.specs.declared.run.Part.{Part}
 use Rattle.pg_rows.specs.Marks.{colon}
 use Rattle.pg_rows.specs.declared.format.Format.{Format}
 use Rattle.pg_rows.specs.declared.position.Position.{Position}
-use Rattle.pg_rows.specs.Output.{marked_name, name_mark, number_text, part_text, context, is_nothing, when, row}
+use Rattle.pg_rows.specs.Output.{marked_name, name_mark, number_text, part_text, is_nothing, when, row}
 use Rattle.pg_rows.specs.Output.{tab_before}
 use Rattle.pg_rows.specs.Trail.{Trail, keeps}
 

@@ -3,8 +3,8 @@ use Rattle.std.proofs.Common.{◌≡◌, ℕ, ◌<◌, Bool, true, false, ◌&&�
 use Rattle.std.proofs.Common.{List, [], ◌∷◌, ◌++◌, length, refl, sym, ap, ◌∙◌, subst, arith, append_assoc}
 use Rattle.std.specs.List.{Contains, list_all}
 use Rattle.std.specs.Option.{IsSome, MatchOption}
-use Rattle.std.specs.Result.{IsErr, IsErrAnd, IsErrOf, IfErr, OnErr, OnOk, MatchResult}
-use Rattle.std.proofs.lemmas.Bool.{eq-eqb, false≢true}
+use Rattle.std.specs.Result.{IsErrAnd, IsErrOf, IfErr, OnErr, MatchResult}
+use Rattle.std.proofs.lemmas.Bool.{false≢true}
 use Rattle.std.proofs.lemmas.List.{append-nil, get_or_at, length_push}
 use Rattle.std.proofs.lemmas.List.Folds.{list_all-append}
 use Rattle.pg_selection.specs.Search.{terminator}
@@ -33,7 +33,6 @@ use Rattle.pg_workers.specs.declared.block_search.BlockSearch.{Ghosts}
 use Rattle.pg_run.specs.declared.engine.Engine.{Engine}
 use Rattle.pg_run.specs.declared.fault.RunFault.TheVariants.{OutOfMemory, Sink}
 use Rattle.pg_seq.proofs.ArriveLemmas.{own_key}
-use Rattle.pg_base.proofs.SinkLemmas.{ok_of_err}
 
 -- Keys of blocks that were taken.
 

@@ -17,7 +17,7 @@ use Rattle.pg_selection.specs.Searched.{Searched}
 use Rattle.pg_plan.specs.declared.answers.Arrival.{Arrival}
 use Rattle.pg_plan.specs.declared.answers.Arrival.TheVariants.{Taken, Double, Stranger}
 use Rattle.pg_plan.specs.Plan.{Step, Opens, Announces, Ends, Misses, IsShaped, IsPlan, announced, opened}
-use Rattle.pg_plan.specs.History.{Past, Event, Arrived, plan, plan_of, answer_after, arrival, is_taken, taken_of}
+use Rattle.pg_plan.specs.History.{Past, Arrived, plan, plan_of, answer_after, arrival, is_taken, taken_of}
 use Rattle.pg_plan.specs.History.{taken_after}
 use Rattle.pg_plan.proofs.ArrivalLaws.{first_is_taken}
 use Rattle.pg_base.specs.Sink.{Stream, IsBeginning}

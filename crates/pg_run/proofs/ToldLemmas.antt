@@ -1,5 +1,5 @@
 -- What is told of files. Serves the law `told_of_shares`.
-use Rattle.std.proofs.Common.{◌≡◌, ℕ, Bool, true, false, List, [], ◌∷◌, ◌++◌, refl, sym, ap, ◌∙◌, append_assoc}
+use Rattle.std.proofs.Common.{◌≡◌, Bool, true, false, List, [], ◌∷◌, ◌++◌, refl, sym, ap, ◌∙◌, append_assoc}
 use Rattle.std.proofs.lemmas.List.{append-nil}
 use Rattle.pg_files.specs.Given.{Given}
 use Rattle.pg_run.specs.Told.{fault_of, faults_of, told_of}

@@ -17,7 +17,6 @@ use Rattle.pg_seq.specs.Slots.{place_of, at_place, slot_block, has_result, arriv
 use Rattle.pg_seq.specs.Slots.{arrival_among, with_result, IsResultOf}
 use Rattle.pg_seq.proofs.KeyLemmas.{AreApart, is_other}
 use Rattle.pg_plan.proofs.ListLemmas.{heads, tails}
-use Rattle.pg_blocks.proofs.CutLaws.{same_block}
 
 taken_same : (keys : List (ℕ × ℕ)) (a b : BlockData) → a.file ≡ b.file → a.number ≡ b.number
     → is_taken keys a ≡ is_taken keys b

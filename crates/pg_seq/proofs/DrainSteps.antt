@@ -36,7 +36,8 @@ use Rattle.pg_plan.proofs.BeginLemmas.{begins_trans, shape_of}
 use Rattle.pg_plan.proofs.CursorLemmas.{cursor_is, output_step, open_rows, plan_begins}
 use Rattle.pg_seq.proofs.ComingLemmas.{of_done, all_push, front_stops, front_has, AreMissed, next_file}
 use Rattle.pg_seq.proofs.ComingLemmas.{is_over, NextStep, Nothing, Block, End, next_step}
-use Rattle.pg_seq.proofs.StandLemmas.{all, halves, IsAlike, rested, all_push as each_push}
+use Rattle.pg_seq.proofs.StandLemmas.{all, halves, IsAlike, rested}
+use Rattle.pg_rows.proofs.WindowLemmas.{all_push as each_push}
 use Rattle.std.proofs.Math.Bool.{or-false}
 
 pub last_by : {A : Type 0} (items : List (Opening A)) (more : Bool) (held n : ℕ)

@@ -2,13 +2,12 @@
 use Rattle.std.proofs.Common.{◌≡◌, ℕ, ◌+◌, Bool, true, false, ◌&&◌, cond, List, [], ◌∷◌, length, map, refl}
 use Rattle.std.proofs.Common.{ap, arith}
 use Rattle.std.specs.List.{list_all}
-use Rattle.std.proofs.lemmas.Bool.{and_from, and_parts}
+use Rattle.std.proofs.lemmas.Bool.{and_parts}
 use Rattle.pg_blocks.specs.Blocks.{BlockData}
 use Rattle.pg_seq.specs.declared.slot.Slot.{Slot}
 use Rattle.pg_plan.specs.Plan.{Step, IsShaped}
 use Rattle.pg_plan.specs.History.{all_taken, front}
 use Rattle.pg_seq.specs.Slots.{has_result, ready}
-use Rattle.pg_seq.proofs.SlotLemmas.{cond_pos}
 
 -- what holds of a plan and of each beginning of it holds of its front
 either : (P : List Step → Type 0) (t : Bool) (a b : List Step) → P a → P b → P (cond t a b)

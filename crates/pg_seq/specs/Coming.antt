@@ -1,6 +1,5 @@
 -- The steps of a plan that are still to come, the oldest first.
 use Rattle.std.specs.Prelude.{ℕ, ◌+◌, List, [], ◌∷◌}
-use Rattle.pg_blocks.specs.Blocks.{BlockData}
 use Rattle.pg_plan.specs.Plan.{Step, Opens, Announces, Ends, Misses}
 
 -- the plan that they give behind the steps before them, of which the newest stands first

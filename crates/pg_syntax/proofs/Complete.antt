@@ -15,7 +15,7 @@ use Rattle.pg_syntax.proofs.BracketLemmas.{bracket_again, bracket_front}
 use Rattle.pg_syntax.proofs.IntervalLemmas.{bounds_again}
 use Rattle.pg_grammar.specs.Grammar as G
 use Rattle.pg_grammar.specs.Grammar.{opening, closing, brace, unbrace, is_escaped, IsOrdinary, Mark, Atom, Item, Piece}
-use Rattle.pg_grammar.specs.Grammar.{Seq, Body, Spells}
+use Rattle.pg_grammar.specs.Grammar.{Seq, Body}
 use Rattle.pg_syntax.specs.Machine.{Level, fresh, cat, last, whole, State, start, with_item, with_anchor, Token, Part}
 use Rattle.pg_syntax.specs.Machine.{Anchor, Repeat, Open, Close, Bar, add, opened, popped, barred, grouped, after, ends}
 use Rattle.pg_syntax.specs.Machine.{repeat_token, basic_escape, extended_escape, basic_token, extended_token, token}

@@ -11,8 +11,8 @@ use Rattle.pg_pattern.specs.Patterns.{Pattern, Set, Begin, End, Cat, Alt, Rep}
 use Rattle.pg_syntax.proofs.BracketLemmas.{bracket_front, bracket_takes}
 use Rattle.pg_syntax.proofs.IntervalLemmas.{chosen, both, bounds_take}
 use Rattle.pg_grammar.specs.Grammar as G
-use Rattle.pg_grammar.specs.Grammar.{opening, closing, brace, unbrace, is_escaped, IsOrdinary, Mark, Atom, Item, Piece}
-use Rattle.pg_grammar.specs.Grammar.{Seq, Body, Spells}
+use Rattle.pg_grammar.specs.Grammar.{opening, closing, brace, unbrace, is_escaped, Mark, Atom, Item, Piece}
+use Rattle.pg_grammar.specs.Grammar.{Seq, Body}
 use Rattle.pg_syntax.specs.Machine.{Level, cat, alt, last, State, with_item, Token, Part, Anchor, Repeat, Open, Close}
 use Rattle.pg_syntax.specs.Machine.{Bar, repeated, opened, popped, barred, grouped, after, Found, ends, set_token}
 use Rattle.pg_syntax.specs.Machine.{repeat_token, basic_escape, extended_escape, basic_token, extended_token, token}

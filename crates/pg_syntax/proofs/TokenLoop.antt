@@ -4,7 +4,7 @@ use Rattle.std.proofs.Common.{drop, Option, Some, None, Err, refl, sym, ap, subs
 use Rattle.std.proofs.lemmas.Bool.{false≢true}
 use Rattle.pg_pattern.specs.Patterns.{Pattern, Empty}
 use Rattle.pg_grammar.specs.Grammar as G
-use Rattle.pg_grammar.specs.Grammar.{Spells, Expression, Body, Mark, opening, closing, brace, unbrace}
+use Rattle.pg_grammar.specs.Grammar.{Spells, Mark, unbrace}
 use Rattle.pg_syntax.specs.Machine as M
 use Rattle.pg_syntax.proofs.Proper.{spelled_proper}
 use Rattle.pg_syntax.specs.Machine.{State, Token, Level, start, whole, grouped, token, after}

@@ -2,7 +2,6 @@
 use Rattle.std.proofs.Common.{◌≡◌, ◌∙◌, ap, refl, sym, subst, true, false, true≢false, not, ℕ, Bool, List, [], ◌∷◌}
 use Rattle.std.proofs.Common.{◌++◌, map}
 use Rattle.std.proofs.Common.{Option, Some, None, option_and_then, option_map, is_some, cond, ◌==◌, eqb-true}
-use Rattle.std.proofs.Common.{append_assoc, ◌||◌}
 use Rattle.std.proofs.Common.{arith, zero, suc}
 use Rattle.clap.proofs.CutLemmas.{Lacks}
 use Rattle.clap.proofs.LexerLemmas.{name_and_value-at, name_and_value-without}

@@ -1,11 +1,11 @@
 -- The rules of the built command.
-use Rattle.std.proofs.Common.{◌≡◌, ◌∙◌, ◌||◌, ap, refl, true, false, ℕ, Bool, List, [], ◌∷◌, ◌++◌, map, Some, None}
+use Rattle.std.proofs.Common.{◌≡◌, ◌∙◌, ap, refl, true, false, ℕ, Bool, List, [], ◌∷◌, ◌++◌, map, Some, None}
 use Rattle.std.proofs.Common.{option_map, codes, find, cond}
-use Rattle.clap.specs.Walk.{Rule, Text, arg_by_id, arg_by_index, arg_by_long, arg_by_short, takes_values}
+use Rattle.clap.specs.Walk.{Rule, Text, arg_by_id, arg_by_index, arg_by_long, arg_by_short}
 use Rattle.clap.specs.Simple.{Shape, new_shape, filled, filled_from, with_index, built}
 use Rattle.clap.specs.Faults.{is_simple_and_free}
 use Rattle.pg_words.specs.App.{our_app, option_rule, operands_rule, app_with}
-use Rattle.pg_words.specs.Line.{Value, Nothing, AnyText, Number, Opt, by_letter, by_name, has_value, table}
+use Rattle.pg_words.specs.Line.{Opt, by_letter, by_name, table}
 use Rattle.std.proofs.Math.Bool.{or-false}
 
 abbrev pub frule : Opt → Rule

@@ -1,19 +1,17 @@
 -- Words that are spelled out, step by step.
 use Rattle.std.proofs.Common.{◌≡◌, ◌∙◌, ap, refl, sym, true, false, true≢false, ℕ, Bool, List, [], ◌∷◌, ◌++◌, ◌<◌, ◌≤◌}
 use Rattle.std.proofs.Common.{◌||◌, ◌==◌, ◌⊎◌, inl, inr, append_assoc, arith, cond, eqb-true, leb-true, nat_le}
-use Rattle.std.proofs.Common.{Some, length, ◌+◌, add-one, drop, drop-cons, get_or, append-nil, map, String}
+use Rattle.std.proofs.Common.{length, ◌+◌, add-one, drop, drop-cons, get_or, append-nil, map, String}
 use Rattle.std.proofs.Common.{Global}
 use Rattle.std.specs.String.{string_bytes}
 use Rattle.std.proofs.lemmas.List.{drop_all}
-use Rattle.std.specs.Prelude.{slice_index}
 use Rattle.std.specs.Char.{is_ascii_digit}
-use Rattle.clap.specs.Lexer.{short_of}
 use Rattle.clap.proofs.WalkLemmas.{both}
 use Rattle.pg_words.specs.Joined.{Place, Free, Rest, ValueOf, waits}
 use Rattle.pg_words.specs.Line.{Text, by_letter, is_mark, table}
-use Rattle.pg_words.specs.Spelled.{flag_words, full_word, is_flag, letter_words, newer_letter, number_words}
+use Rattle.pg_words.specs.Spelled.{full_word, is_flag, letter_words, newer_letter}
 use Rattle.pg_words.specs.Spelled.{place_behind}
-use Rattle.pg_words.specs.Spelled.{rest_word, spelled_from, spelled_word}
+use Rattle.pg_words.specs.Spelled.{spelled_from, spelled_word}
 use Rattle.pg_words.proofs.Found.{ascii_letters}
 use Rattle.pg_words.proofs.Ours.{all_rows}
 use Rattle.pg_words.proofs.Walks.{lt_or_le}
@@ -100,8 +98,6 @@ own_word_low x e = go (is_ascii_digit x) refl e
     go : (b : Bool) → is_ascii_digit x ≡ b → (b || is_flag (by_letter table (newer_letter x))) ≡ true → x < 128
     go true is e = digit_low x is
     go false is e = older_low x (newer_low x e)
-
-module _ (before : List Text) (w digits rest : Text) (x : ℕ) where
 
 pub letter_kept : (letters w : Text) (at d : ℕ) (old new first : List Text) (digits more : Text)
     → at < length letters

@@ -1,7 +1,7 @@
 -- The rows of the code's table, by letter and by name.
 use Rattle.std.proofs.Common.{◌≡◌, ◌∙◌, ap, refl, sym, true, false, ℕ, Bool, List, [], ◌∷◌, map, Option, Some, None}
 use Rattle.std.proofs.Common.{◌++◌, ◌||◌, not, ap₂, ◌+◌, ◌<◌, drop, drop-cons, add-one, get_or, length}
-use Rattle.std.proofs.Common.{append-nil, append_assoc, is_some, option_map, true≢false, ◌&&◌, ◌≤◌}
+use Rattle.std.proofs.Common.{append-nil, append_assoc, is_some, option_map, true≢false, ◌≤◌}
 use Rattle.std.proofs.lemmas.List.{drop_all}
 use Rattle.clap.proofs.WalkLemmas.{both}
 use Rattle.clap.proofs.SimpleLemmas.{is_false}
@@ -12,11 +12,11 @@ use Rattle.clap.specs.Words.{App, AddsAliases, AddsArg, AddsInTurn, Rule, app_of
 use Rattle.clap.specs.declared.builder.arg.Arg.{Arg}
 use Rattle.clap.specs.declared.builder.command.Command.{Command}
 use Rattle.std.specs.List.{list_all}
-use Rattle.pg_words.specs.App.{app_of_rules, named_rule, rule_for, has_begun_name, has_letter, has_name}
+use Rattle.pg_words.specs.App.{app_of_rules, named_rule, rule_for, has_begun_name, has_name}
 use Rattle.pg_words.specs.App.{has_value_behind, opts_of, value_of}
 use Rattle.pg_words.specs.Joined.{takes_value}
-use Rattle.pg_words.specs.Line.{Text, Opt, by_letter, by_name}
-use Rattle.pg_words.specs.Spelled.{begins, is_flag, names_begun, only_one}
+use Rattle.pg_words.specs.Line.{Text, Opt, by_name}
+use Rattle.pg_words.specs.Spelled.{begins, names_begun, only_one}
 use Rattle.pg_words.specs.declared.command.OptionRow.{OptionRow}
 use Rattle.pg_words.specs.declared.command.Behind.{Behind}
 use Rattle.pg_words.specs.declared.command.Behind.TheVariants as behind

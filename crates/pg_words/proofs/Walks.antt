@@ -1,11 +1,11 @@
 -- The walk of `clap` over words that hold the values of their options.
-use Rattle.std.proofs.Common.{◌≡◌, ◌∙◌, ap, ap₂, refl, sym, true, false, not, ℕ, Bool, List, [], ◌∷◌, ◌++◌, map, Option}
-use Rattle.std.proofs.Common.{Some, None, option_map, is_some, option_and_then, ◌≤◌, codes, cond, fold, ◌&&◌, ◌||◌, ◌<◌}
-use Rattle.std.proofs.Common.{◌⊎◌, inl, inr, arith, nat_lt, drop, length, ltb-true, ltb-false, eqb-true, ◌==◌, All, suc}
+use Rattle.std.proofs.Common.{◌≡◌, ◌∙◌, ap, ap₂, refl, sym, true, false, not, ℕ, Bool, List, [], ◌∷◌, map, Option}
+use Rattle.std.proofs.Common.{Some, None, option_map, is_some, option_and_then, ◌≤◌, codes, cond, fold, ◌&&◌, ◌<◌}
+use Rattle.std.proofs.Common.{◌⊎◌, inl, inr, arith, nat_lt, length, ltb-true, ltb-false, eqb-true, ◌==◌, All, suc}
 use Rattle.std.proofs.Common.{subst}
-use Rattle.std.specs.Prelude.{encode_utf8, slice_get, slice_index, encode_utf8_all, unwrap_or}
-use Rattle.std.specs.Str.{chars, IsUtf8}
-use Rattle.std.proofs.lemmas.Str.{encode_ascii, chars_from_encodes, chars_past_char, IsUtf8-drop}
+use Rattle.std.specs.Prelude.{unwrap_or}
+use Rattle.std.specs.Str.{IsUtf8}
+use Rattle.std.proofs.lemmas.Str.{IsUtf8-drop}
 use Rattle.std.proofs.lemmas.Str.{IsCharBoundary-after_ascii}
 use Rattle.std.specs.Option.{option_map_or}
 use Rattle.std.specs.Str.{bytes_eq}

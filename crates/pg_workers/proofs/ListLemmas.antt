@@ -4,7 +4,6 @@ use Rattle.std.proofs.Common.{replicate, take, sym, refl, ap, subst, arith}
 use Rattle.std.specs.Prelude.{slice_get, Some}
 use Rattle.std.proofs.lemmas.List.Elements.{All-append}
 use Rattle.std.proofs.Math.Seq.{take-append_seam}
-use Rattle.pg_board.proofs.CountLemmas.{all_front, all_last}
 
 pub get_at : {A : Type 0} (xs : List A) (i : ℕ) (a : A) → i < length xs → get_or xs i a ≡ a → slice_get xs i ≡ Some a
 get_at [] i a h e = absurd (omega arith)

@@ -1,6 +1,5 @@
-use Rattle.std.proofs.Common.{◌≡◌, ◌∙◌, ◌++◌, ap}
+use Rattle.std.proofs.Common.{◌∙◌, ◌++◌, ap}
 use Rattle.std.specs.Prelude.{codes}
-use Rattle.std.specs.List.{flat_map}
 use Rattle.pg_base.specs.Causes.{fault_line}
 use Rattle.pg_base.proofs.WriteLemmas.{writes_as}
 use Rattle.pg_base.proofs.telling.tell_cause.Goals as goal

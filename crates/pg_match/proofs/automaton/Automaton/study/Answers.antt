@@ -1,6 +1,5 @@
 use Rattle.pg_match.proofs.automaton.Automaton.study.Goals.{then-from-eq0, else-from-eq0}
-use Rattle.std.proofs.Common.{◌≡◌, ℕ, ◌+◌, ◌*◌, ◌^◌, ◌<◌, ◌≤◌, ◌∙◌, length, arith, subst, refl}
-use Rattle.std.proofs.Math.Nat.{mul-le-mul_left}
+use Rattle.std.proofs.Common.{◌≤◌, ◌∙◌, length, arith, subst, refl}
 use Rattle.pg_match.specs.Views.{members}
 use Rattle.pg_match.proofs.StateSetLemmas.{few}
 use Rattle.pg_match.proofs.CacheLemmas.{most_small, within_most, within_room, visits_whole}

@@ -1,5 +1,4 @@
-use Rattle.std.proofs.Common.{◌≡◌, ℕ, ◌+◌, ◌*◌, ◌^◌, ◌<◌, ◌≤◌, ◌∙◌, length, arith, refl}
-use Rattle.std.proofs.Math.Nat.{mul-le-mul_left}
+use Rattle.std.proofs.Common.{◌∙◌, length, arith, refl}
 use Rattle.pg_match.proofs.AnchoredLemmas.{start_row_few}
 use Rattle.pg_match.proofs.CacheLemmas.{told_on, within_most, within_room, visits_whole}
 use Rattle.pg_match.proofs.automaton.Automaton.study_from.Goals as goal

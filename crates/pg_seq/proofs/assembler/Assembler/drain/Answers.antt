@@ -1,4 +1,4 @@
-use Rattle.std.proofs.Common.{◌≡◌, ◌∙◌, ◌++◌, ◌||◌, ◌<◌, Bool, true, ℕ, List, [], ap, sym, subst, refl, arith}
+use Rattle.std.proofs.Common.{◌∙◌, ◌++◌, ◌||◌, Bool, true, ℕ, List, [], ap, sym, subst, refl, arith}
 use Rattle.std.proofs.Common.{append_assoc}
 use Rattle.std.proofs.lemmas.Bool.{MatchBool-at_true, MatchBool-at_false, or_right}
 use Rattle.std.proofs.lemmas.List.{append-nil}
