@@ -1,7 +1,9 @@
 -- What stands where a fault is found.
-use Rattle.std.specs.Prelude.{ℕ, zero, suc, ◌≡◌, ◌≢◌, ◌≤◌, ◌<◌, Bool, true, List, [], ◌∷◌, ◌++◌, length, drop, ◌⊎◌}
+use Rattle.std.specs.Prelude.{ℕ, zero, suc, ◌≡◌, ◌≢◌, ◌≤◌, ◌<◌, Bool, true, false, List, [], ◌∷◌, ◌++◌, length, drop}
+use Rattle.std.specs.Prelude.{◌⊎◌, Option}
 use Rattle.pg_pattern.specs.Patterns.{Pattern}
-use Rattle.pg_grammar.specs.Grammar.{opening, closing, brace, Body}
+use Rattle.pg_grammar.specs.Grammar.{opening, closing, brace, unbrace, is_escaped, Body}
+use Rattle.pg_grammar.specs.Intervals.{IsBounds}
 use Rattle.pg_grammar.specs.Brackets.{Element, Single, IsFront, HaveNoRange, OpensBracket, ReadsUpTo}
 use Rattle.pg_grammar.specs.declared.syntax.Syntax.{Syntax}
 use Rattle.pg_grammar.specs.declared.syntax.Syntax.TheVariants as S
@@ -21,6 +23,20 @@ Stands text at w = (rest : List ℕ) × (drop at text ≡ w ++ rest)
 -- the text is longer than 4,096 bytes, and the fault stands behind the last that may be
 abbrev pub IsPastLongest : List ℕ → ℕ → Type 0
 IsPastLongest text at = (at ≡ 4096) × (4096 < length text)
+
+-- A backslash makes this byte no ordinary one, and opens or closes no group and opens no interval with it.
+abbrev pub IsUnescaped : Syntax → ℕ → Type 0
+IsUnescaped syntax b = (is_escaped syntax b ≡ false) × (92 ∷ b ∷ [] ≢ opening syntax) × (92 ∷ b ∷ [] ≢ closing syntax)
+    × (92 ∷ b ∷ [] ≢ brace syntax)
+
+-- the escape of this byte has no meaning: nor is it a digit from 1 to 9
+abbrev pub HasNoMeaning : Syntax → ℕ → Type 0
+HasNoMeaning syntax b = IsUnescaped syntax b × ((b < 49) ⊎ (57 < b))
+
+-- what opens an interval stands at this offset, but no bounds with what closes it behind that
+abbrev pub HasNoInterval : Syntax → List ℕ → ℕ → Type 0
+HasNoInterval syntax text at = Stands text at (brace syntax)
+    × ((t : List ℕ) (m : ℕ) (n : Option ℕ) → IsBounds t m n → Stands text at (brace syntax ++ (t ++ unbrace syntax)) → ⊥)
 
 -- The elements of a bracket that begins before are read up to this offset, and this is the next one. Only the first one
 -- can be a `]`, which else closes the bracket.
@@ -78,7 +94,7 @@ pub record LeavesEmpty (syntax : Syntax) (text : List ℕ) : Type 0 where
 -- that leaves a group open, or its last alternative empty. No text is at fault for want of memory.
 abbrev pub PlaceIn : Syntax → FaultKind → List ℕ → ℕ → Type 0
 PlaceIn syntax TrailingBackslash text at = drop at text ≡ 92 ∷ []
-PlaceIn syntax BadEscape text at = Stands text at (92 ∷ [])
+PlaceIn syntax BadEscape text at = (b : ℕ) × HasNoMeaning syntax b × Stands text at (92 ∷ b ∷ [])
 PlaceIn syntax BackReference text at = (d : ℕ) × (49 ≤ d) × (d ≤ 57) × Stands text at (92 ∷ d ∷ [])
 PlaceIn syntax UnmatchedBracket text at = Stands text at (91 ∷ [])
 PlaceIn syntax BadClass text at = Stands text at (91 ∷ 58 ∷ [])
@@ -86,7 +102,7 @@ PlaceIn syntax BadCollating text at = Stands text at (91 ∷ 61 ∷ []) ⊎ Stan
 PlaceIn syntax BadRange text at = IsBadRange text at
 PlaceIn syntax UnmatchedGroup text at =
     ((syntax ≡ Basic) × Stands text at (closing Basic)) ⊎ ((at ≡ length text) × LeavesOpen syntax text)
-PlaceIn syntax BadInterval text at = Stands text at (brace syntax)
+PlaceIn syntax BadInterval text at = HasNoInterval syntax text at
 PlaceIn Basic NothingToRepeat text at = Stands text at (42 ∷ []) ⊎ Stands text at (brace Basic)
 PlaceIn Extended NothingToRepeat text at =
     (b : ℕ) × ((b ≡ 42) ⊎ ((b ≡ 43) ⊎ ((b ≡ 63) ⊎ (b ≡ 123)))) × Stands text at (b ∷ [])
