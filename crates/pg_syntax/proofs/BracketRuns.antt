@@ -1,9 +1,9 @@
 -- The elements of a bracket, one after the other.
 use Rattle.std.proofs.Common.{ℕ, zero, suc, ◌≡◌, ◌<◌, ◌≤◌, ◌+◌, ◌-◌, Bool, true, false, not, ◌&&◌, eqb, List, [], ◌∷◌}
 use Rattle.std.proofs.Common.{length, drop, get_or, Option, Some, None, option_and_then, refl, sym, ap, ◌∙◌, arith}
-use Rattle.std.proofs.Common.{◌++◌, length-drop, length-append}
+use Rattle.std.proofs.Common.{length-drop, length-append}
 use Rattle.std.proofs.lemmas.List.{drop_all}
-use Rattle.pg_grammar.specs.Brackets.{Element, Inside, OpensBracket}
+use Rattle.pg_grammar.specs.Brackets.{Element, OpensBracket}
 use Rattle.pg_grammar.specs.Places.{HasNoEnd}
 use Rattle.pg_syntax.specs.BracketReading.{Elements, Reading, put, finish, with_element, inside_at, element_at, rest_of}
 use Rattle.pg_syntax.specs.BracketReading.{unread}
@@ -40,7 +40,8 @@ at_step text first at n h c l =
           ∙ ap (then_inside p.0) (ap element_at (sym s)))),
     )
 
-pub left_more : (all : Elements) (text : List ℕ) (r : Reading) (first : Bool) (at after : ℕ) (e : Element) → at < length text → at < after → (eqb (get_or text at 0) 93 && not first) ≡ false
+pub left_more : (all : Elements) (text : List ℕ) (r : Reading) (first : Bool) (at after : ℕ) (e : Element)
+    → at < length text → at < after → (eqb (get_or text at 0) 93 && not first) ≡ false
     → element_at (drop at text) ≡ Some (e, drop after text) → (t : Reading) → t ≡ put r e → Left all text r first at
     → Left all text t false after
 unfolding then_inside

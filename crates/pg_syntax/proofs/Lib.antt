@@ -14,4 +14,5 @@ pub mod Braces
 pub mod Escapes
 pub mod Literals
 pub mod Onward
+pub mod Prefixes
 pub mod TokenLoop

@@ -1,7 +1,7 @@
 -- How the functions of this crate read an expression from left to right, token by token. They are proved against this;
 -- what a text spells stands in Grammar, and the two are proved to agree.
-use Rattle.std.specs.Prelude.{ℕ, ◌≡◌, Bool, true, false, ◌&&◌, ◌==◌, nat_lt, List, [], ◌∷◌, length}
-use Rattle.std.specs.Prelude.{Option, Some, None, is_some, is_none, option_and_then, if◌then◌else◌}
+use Rattle.std.specs.Prelude.{ℕ, Bool, true, false, ◌&&◌, ◌==◌, nat_lt, List, [], ◌∷◌, length}
+use Rattle.std.specs.Prelude.{Option, Some, None, is_some, is_none, if◌then◌else◌}
 use Rattle.pg_bytes.specs.Sets.{Bytes, one, all}
 use Rattle.pg_pattern.specs.Patterns.{Pattern, Set, Begin, End, Cat, Alt, Rep, folded}
 use Rattle.pg_syntax.specs.BracketReading.{bracket}
