@@ -1,8 +1,11 @@
 -- What stands where a fault is found.
-use Rattle.std.specs.Prelude.{ℕ, zero, suc, ◌≡◌, ◌≢◌, ◌≤◌, ◌<◌, Bool, true, List, [], ◌∷◌, ◌++◌, length, drop, ◌⊎◌}
+use Rattle.std.specs.Prelude.{ℕ, zero, suc, ◌≡◌, ◌≢◌, ◌≤◌, ◌<◌, Bool, true, false, List, [], ◌∷◌, ◌++◌, length, drop}
+use Rattle.std.specs.Prelude.{take, ◌⊎◌, Option, None}
 use Rattle.pg_pattern.specs.Patterns.{Pattern}
-use Rattle.pg_grammar.specs.Grammar.{opening, closing, brace, Body}
-use Rattle.pg_grammar.specs.Brackets.{Element, Single, IsFront, HaveNoRange, OpensBracket, ReadsUpTo}
+use Rattle.pg_grammar.specs.Grammar.{opening, closing, brace, unbrace, is_escaped, Body}
+use Rattle.pg_grammar.specs.Intervals.{IsBounds}
+use Rattle.pg_grammar.specs.Brackets.{Element, Single, Enclosed, Inside, IsFront, member, HaveNoRange, OpensBracket}
+use Rattle.pg_grammar.specs.Brackets.{ReadsUpTo}
 use Rattle.pg_grammar.specs.declared.syntax.Syntax.{Syntax}
 use Rattle.pg_grammar.specs.declared.syntax.Syntax.TheVariants as S
 use Rattle.pg_grammar.specs.declared.syntax.Syntax.TheVariants.{Basic, Extended}
@@ -22,12 +25,41 @@ Stands text at w = (rest : List ℕ) × (drop at text ≡ w ++ rest)
 abbrev pub IsPastLongest : List ℕ → ℕ → Type 0
 IsPastLongest text at = (at ≡ 4096) × (4096 < length text)
 
+-- a backslash makes this byte no ordinary one, and opens or closes no group and opens no interval with it
+abbrev pub IsUnescaped : Syntax → ℕ → Type 0
+IsUnescaped syntax b = (is_escaped syntax b ≡ false) × (92 ∷ b ∷ [] ≢ opening syntax) × (92 ∷ b ∷ [] ≢ closing syntax)
+    × (92 ∷ b ∷ [] ≢ brace syntax)
+
+-- the escape of this byte has no meaning: nor is it a digit from 1 to 9
+abbrev pub HasNoMeaning : Syntax → ℕ → Type 0
+HasNoMeaning syntax b = IsUnescaped syntax b × ((b < 49) ⊎ (57 < b))
+
+-- what opens an interval stands at this offset, but no bounds with what closes it behind that
+abbrev pub HasNoInterval : Syntax → List ℕ → ℕ → Type 0
+HasNoInterval syntax text at = Stands text at (brace syntax)
+    × ((t : List ℕ) (m : ℕ) (n : Option ℕ) → IsBounds t m n
+    → Stands text at (brace syntax ++ (t ++ unbrace syntax)) → ⊥)
+
+-- what opens a bracket stands at this offset, but no elements with the `]` that closes it behind that
+pub record HasNoEnd (text : List ℕ) (at : ℕ) : Type 0 where
+  pub elements : List ℕ
+  pub opens : OpensBracket (drop at text) elements
+  pub none : (inside rest : List ℕ) (es : List Element) → Inside true inside es → elements ≡ inside ++ rest → ⊥
+
 -- The elements of a bracket that begins before are read up to this offset, and this is the next one. Only the first one
 -- can be a `]`, which else closes the bracket.
 abbrev pub StandsInBracket : List ℕ → ℕ → Element → Type 0
 StandsInBracket text at e = (bracket : ℕ) × (elements : List ℕ) × (first : Bool)
     × OpensBracket (drop bracket text) elements × ReadsUpTo elements first (drop at text)
     × ((first ≡ true) ⊎ (e ≢ Single 93))
+
+-- an element that this mark encloses stands at this offset, inside a bracket, and stands for no bytes
+pub record IsBadElement (mark : ℕ) (text : List ℕ) (at : ℕ) : Type 0 where
+  pub content : List ℕ
+  pub rest : List ℕ
+  pub inside : StandsInBracket text at (Enclosed mark content)
+  pub front : IsFront (Enclosed mark content) (drop at text) rest
+  pub nothing : member (Enclosed mark content) ≡ None
 
 -- a `-` and one more element, which is no `]`, stand at the front
 pub record IsRangedOn (text : List ℕ) : Type 0 where
@@ -57,15 +89,15 @@ abbrev pub closings : Syntax → ℕ → List ℕ
 closings syntax zero = []
 closings syntax (suc groups) = closing syntax ++ closings syntax groups
 
--- A group is open where the text ends: one more byte, an `a`, makes it no expression, but that byte and what closes one
--- group or more behind it do.
-pub record LeavesOpen (syntax : Syntax) (text : List ℕ) : Type 0 where
+-- More than so many groups are open where the text ends: one more byte, an `a`, and what closes so many make it no
+-- expression, but that byte and what closes more do.
+pub record LeavesOpen (syntax : Syntax) (many : ℕ) (text : List ℕ) : Type 0 where
   pub fold : Bool
   pub groups : ℕ
-  pub some : 0 < groups
+  pub more : many < groups
   pub pattern : Pattern
   pub closed : Body syntax fold (text ++ 97 ∷ closings syntax groups) pattern 0
-  pub needed : (p : Pattern) → Body syntax fold (text ++ 97 ∷ []) p 0 → ⊥
+  pub needed : (p : Pattern) → Body syntax fold (text ++ 97 ∷ closings syntax many) p 0 → ⊥
 
 -- the last alternative is empty where the text ends: one more byte, an `a`, makes it an expression
 pub record LeavesEmpty (syntax : Syntax) (text : List ℕ) : Type 0 where
@@ -73,27 +105,29 @@ pub record LeavesEmpty (syntax : Syntax) (text : List ℕ) : Type 0 where
   pub pattern : Pattern
   pub filled : Body syntax fold (text ++ 97 ∷ []) pattern 0
 
--- a fault of this kind can stand at this offset of an expression: a backslash; `[`, or `[` with a mark; a range that
--- can't be; what closes a group; what begins an interval; what repeats; what opens a group; a bar; or the end of a text
--- that leaves a group open, or its last alternative empty. No text is at fault for want of memory.
+-- What stands where an expression has a fault of this kind: a backslash at the end, before a byte whose escape has no
+-- meaning, or before a digit from 1 to 9; a `[` that begins no bracket; in a bracket, an element that stands for no
+-- bytes, or a range that can't be; what opens an interval, but begins none; what opens a group where more than 99 are
+-- open; or the end of a text that leaves a group open, or its last alternative empty. Of what closes a group, of what
+-- repeats, and of a bar, the bytes alone are told. No text is at fault for want of memory.
 abbrev pub PlaceIn : Syntax → FaultKind → List ℕ → ℕ → Type 0
 PlaceIn syntax TrailingBackslash text at = drop at text ≡ 92 ∷ []
-PlaceIn syntax BadEscape text at = Stands text at (92 ∷ [])
+PlaceIn syntax BadEscape text at = (b : ℕ) × HasNoMeaning syntax b × Stands text at (92 ∷ b ∷ [])
 PlaceIn syntax BackReference text at = (d : ℕ) × (49 ≤ d) × (d ≤ 57) × Stands text at (92 ∷ d ∷ [])
-PlaceIn syntax UnmatchedBracket text at = Stands text at (91 ∷ [])
-PlaceIn syntax BadClass text at = Stands text at (91 ∷ 58 ∷ [])
-PlaceIn syntax BadCollating text at = Stands text at (91 ∷ 61 ∷ []) ⊎ Stands text at (91 ∷ 46 ∷ [])
+PlaceIn syntax UnmatchedBracket text at = HasNoEnd text at
+PlaceIn syntax BadClass text at = IsBadElement 58 text at
+PlaceIn syntax BadCollating text at = IsBadElement 61 text at ⊎ IsBadElement 46 text at
 PlaceIn syntax BadRange text at = IsBadRange text at
 PlaceIn syntax UnmatchedGroup text at =
-    ((syntax ≡ Basic) × Stands text at (closing Basic)) ⊎ ((at ≡ length text) × LeavesOpen syntax text)
-PlaceIn syntax BadInterval text at = Stands text at (brace syntax)
+    ((syntax ≡ Basic) × Stands text at (closing Basic)) ⊎ ((at ≡ length text) × LeavesOpen syntax 0 text)
+PlaceIn syntax BadInterval text at = HasNoInterval syntax text at
 PlaceIn Basic NothingToRepeat text at = Stands text at (42 ∷ []) ⊎ Stands text at (brace Basic)
 PlaceIn Extended NothingToRepeat text at =
     (b : ℕ) × ((b ≡ 42) ⊎ ((b ≡ 43) ⊎ ((b ≡ 63) ⊎ (b ≡ 123)))) × Stands text at (b ∷ [])
 PlaceIn syntax EmptyOperand text at =
     Stands text at (closing syntax)
     ⊎ (((syntax ≡ Extended) × Stands text at (124 ∷ [])) ⊎ ((at ≡ length text) × LeavesEmpty syntax text))
-PlaceIn syntax TooDeep text at = Stands text at (opening syntax)
+PlaceIn syntax TooDeep text at = Stands text at (opening syntax) × LeavesOpen syntax 99 (take at text)
 PlaceIn syntax OutOfMemory text at = ⊥
 PlaceIn syntax TooLong text at = IsPastLongest text at
 

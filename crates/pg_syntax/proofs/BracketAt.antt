@@ -1,6 +1,6 @@
 -- Where elements stand.
-use Rattle.std.proofs.Common.{ℕ, ◌≡◌, ◌≢◌, ◌⊎◌, inl, inr, ◌<◌, ◌+◌, Bool, true, false, ◌&&◌, eqb, leb, cond, List, []}
-use Rattle.std.proofs.Common.{◌∷◌, Option, Some, None, is_some, option_and_then, refl, sym, ap, ◌∙◌, subst, length}
+use Rattle.std.proofs.Common.{ℕ, ◌≡◌, ◌≢◌, ◌⊎◌, inl, inr, ◌<◌, ◌+◌, Bool, true, false, ◌&&◌, ◌||◌, eqb, leb, cond, List}
+use Rattle.std.proofs.Common.{[], ◌∷◌, Option, Some, None, is_some, option_and_then, refl, sym, ap, ◌∙◌, subst, length}
 use Rattle.std.proofs.Common.{get_or, not, drop, arith}
 use Rattle.std.proofs.lemmas.Bool.{eqb-true, false≢true}
 use Rattle.std.proofs.lemmas.Bool.Decides.{nat_tests}
@@ -9,7 +9,7 @@ use Rattle.pg_grammar.specs.Brackets.{Element, Single, Enclosed, opens, IsFront,
 use Rattle.pg_grammar.specs.Brackets.{OpensBracket, negates}
 use Rattle.pg_grammar.specs.Brackets.{end_point, is_dash, member, only_byte}
 use Rattle.pg_syntax.specs.BracketReading.{element_at, enclosed_at, enclosed_in, until, range_of}
-use Rattle.pg_grammar.specs.Places.{HasRange, IsBadRange}
+use Rattle.pg_grammar.specs.Places.{StandsInBracket, HasRange, IsBadElement, IsBadRange}
 use Rattle.pg_syntax.specs.BracketPlaces.{EndsRange, Holds, GoesOn}
 use Rattle.pg_syntax.specs.BracketViews as V
 use Rattle.pg_syntax.specs.declared.element.Element.{Element as Read}
@@ -150,9 +150,33 @@ inner first e mode (inl f) k = inl f
 inner first e mode (inr f) (inl t) = absurd (false≢true (sym f ∙ t))
 inner first e mode (inr f) (inr n) = inr n
 
-pub opens_stands : (text elements : List ℕ) → OpensBracket text elements → (rest : List ℕ) × (text ≡ 91 ∷ rest)
-opens_stands text elements (inl h) = (elements, h.0)
-opens_stands text elements (inr h) = (94 ∷ elements, h)
+-- an enclosed element that stands for no bytes
+pub bad_element : (text : List ℕ) (at : ℕ) (a : Read) (rest : List ℕ) (mark : ℕ) (content : List ℕ)
+    → V.element a ≡ Enclosed mark content → Holds text at a rest → member (V.element a) ≡ None
+    → IsBadElement mark text at
+bad_element text at a rest mark content e h n = record {
+  content = content;
+  rest = rest;
+  inside = subst (StandsInBracket text at) e h.inside;
+  front = subst (λ x. IsFront x (drop at text) rest) e h.front;
+  nothing = sym (ap member e) ∙ n;
+}
+
+pub bad_class : (text : List ℕ) (at mark : ℕ) → mark ≡ 58 → IsBadElement mark text at → IsBadElement 58 text at
+bad_class text at mark e bad = subst (λ m. IsBadElement m text at) e bad
+
+pub bad_collating : (text : List ℕ) (at mark : ℕ) → mark ≢ 58 → IsBadElement mark text at
+    → IsBadElement 61 text at ⊎ IsBadElement 46 text at
+bad_collating text at mark n bad = elim (other_mark (eqb mark 58) (eqb mark 61) refl refl bad.front.1) [
+  | inl e ↦ inl (subst (λ m. IsBadElement m text at) e bad)
+  | inr e ↦ inr (subst (λ m. IsBadElement m text at) e bad)
+]
+  where
+    other_mark : (x y : Bool) → eqb mark 58 ≡ x → eqb mark 61 ≡ y → (x || (y || eqb mark 46)) ≡ true
+        → (mark ≡ 61) ⊎ (mark ≡ 46)
+    other_mark true y a b h = absurd (n (eqb-true mark 58 a))
+    other_mark false true a b h = inl (eqb-true mark 61 b)
+    other_mark false false a b h = inr (eqb-true mark 46 h)
 
 -- a bracket's elements begin behind its `[`, and a `^`
 pub opens_at : (text : List ℕ) (at : ℕ) (turn : Bool) (start : ℕ) → drop at text ≡ 91 ∷ drop (at + 1) text

@@ -86,7 +86,7 @@ opens_front : (t rest : List ℕ) → (b : ℕ) × (u : List ℕ) × (t ≡ b �
 opens_front t rest f = rw (f.2) refl
 
 -- the elements up to the closing bracket
-inside_again : {first : Bool} {t : List ℕ} {es : List Element} → Inside first t es → (n : ℕ) (rest : List ℕ)
+pub inside_again : {first : Bool} {t : List ℕ} {es : List Element} → Inside first t es → (n : ℕ) (rest : List ℕ)
     → length t ≤ n → inside_at n first (t ++ rest) ≡ Some (es, rest)
 unfolding inside_at
 inside_again h zero rest l = let f = inside_some h in absurd (omega (arith, ap length f.2))
@@ -108,7 +108,7 @@ abbrev after_or : List ℕ → Elements → List ℕ
 after_or d None = d
 after_or d (Some x) = x.1
 
-no_elements : {A : Type 0} (x : List Element × List ℕ) → ◌≡◌ {A = Elements} None (Some x) → A
+pub no_elements : {A : Type 0} (x : List Element × List ℕ) → ◌≡◌ {A = Elements} None (Some x) → A
 no_elements x e = absurd (differ e)
   where
     differ : ◌≡◌ {A = Elements} None (Some x) → ⊥

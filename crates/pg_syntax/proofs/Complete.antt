@@ -9,10 +9,9 @@ use Rattle.pg_pattern.specs.Patterns.{folded}
 use Rattle.pg_grammar.specs.Brackets.{IsBracket}
 use Rattle.pg_syntax.specs.BracketReading.{bracket}
 use Rattle.pg_grammar.specs.Intervals.{IsBounds}
-use Rattle.pg_syntax.specs.IntervalReading.{bounds}
 use Rattle.pg_pattern.specs.Patterns.{Pattern, Set, Begin, End}
 use Rattle.pg_syntax.proofs.BracketLemmas.{bracket_again, bracket_front}
-use Rattle.pg_syntax.proofs.IntervalLemmas.{bounds_again}
+use Rattle.pg_syntax.proofs.Braces.{interval_again}
 use Rattle.pg_grammar.specs.Grammar as G
 use Rattle.pg_grammar.specs.Grammar.{opening, closing, brace, unbrace, is_escaped, IsOrdinary, Mark, Atom, Item, Piece}
 use Rattle.pg_grammar.specs.Grammar.{Seq, Body}
@@ -222,12 +221,8 @@ interval_token : (syntax : Syntax) (t : List ℕ) (m : ℕ) (n : Option ℕ) →
     → (fold : Bool) (s : State) (q : Pattern) (rest : List ℕ)
     → token syntax fold (add q s) ((brace syntax ++ (t ++ unbrace syntax)) ++ rest) ≡ Some (Repeat m n, rest)
 unfolding basic_token extended_token basic_escape
-interval_token Basic t m n b fold s q rest =
-    ap repeat_token (ap (bounds (unbrace Basic)) (append_assoc t (unbrace Basic) rest)
-    ∙ bounds_again 92 (125 ∷ []) refl refl t m n rest b)
-interval_token Extended t m n b fold s q rest =
-    ap repeat_token (ap (bounds (unbrace Extended)) (append_assoc t (unbrace Extended) rest)
-    ∙ bounds_again 125 [] refl refl t m n rest b)
+interval_token Basic t m n b fold s q rest = ap repeat_token (interval_again Basic t m n rest b)
+interval_token Extended t m n b fold s q rest = ap repeat_token (interval_again Extended t m n rest b)
 
 mark_token : {syntax : Syntax} {mark : List ℕ} {m : ℕ} {n : Option ℕ} → Mark syntax mark m n
     → (fold : Bool) (s : State) (q : Pattern) (rest : List ℕ)

@@ -11,6 +11,8 @@ pub mod Sound
 pub mod Agreement
 pub mod Proper
 pub mod Braces
+pub mod Escapes
 pub mod Literals
 pub mod Onward
+pub mod Prefixes
 pub mod TokenLoop

@@ -279,25 +279,25 @@ module _ (syntax : Syntax) (fold : Bool) (text m : List ℕ) where
 
 module _ (syntax : Syntax) (fold : Bool) where
   -- what is left to read makes the pattern where the whole text does
-  whole_made : (text : List ℕ) {s : State} {t : List ℕ} (p : Pattern) → Leads syntax fold text s t
+  pub whole_made : (text : List ℕ) {s : State} {t : List ℕ} (p : Pattern) → Leads syntax fold text s t
       → Completes syntax fold s t p → Completes syntax fold start text p
   whole_made text p begin c = c
   whole_made text p (onward l e) c = whole_made text p l (step e c)
 
-  left_made : (text : List ℕ) {s : State} {t : List ℕ} (p : Pattern) → Leads syntax fold text s t
+  pub left_made : (text : List ℕ) {s : State} {t : List ℕ} (p : Pattern) → Leads syntax fold text s t
       → Completes syntax fold start text p → Completes syntax fold s t p
   left_made text p begin c = c
   left_made text p (onward {s = s} {s' = s'} {t = t} {rest = rest} l e) c =
       stepped syntax fold s s' t rest p e (left_made text p l c)
 
-  some_whole : (a c : Option Pattern) (p : Pattern) → (q : Pattern) × (alt a (cat c (Some p)) ≡ Some q)
+  pub some_whole : (a c : Option Pattern) (p : Pattern) → (q : Pattern) × (alt a (cat c (Some p)) ≡ Some q)
   some_whole None None p = (p, refl)
   some_whole None (Some x) p = (_, refl)
   some_whole (Some y) None p = (_, refl)
   some_whole (Some y) (Some x) p = (_, refl)
 
   -- what closes all open groups makes a pattern
-  closes : (outer : List Level) (l : Level) (p : Pattern) → whole l ≡ Some p
+  pub closes : (outer : List Level) (l : Level) (p : Pattern) → whole l ≡ Some p
       → (q : Pattern) × Completes syntax fold (record { outer = outer; level = l }) (closings syntax (length outer)) q
   closes [] l p w = (p, done w)
   closes (o ∷ outer) l p w =
@@ -306,7 +306,7 @@ module _ (syntax : Syntax) (fold : Bool) where
       (r.0, goes (close_token syntax fold o l outer (closings syntax (length outer))) (ap (popped (o ∷ outer)) w) r.1)
 
   -- an `a` is an item wherever it stands
-  item_next : (s : State) (x : List ℕ) → token syntax fold s (97 ∷ x) ≡ Some (Part (Set (folded fold (one 97))), x)
+  pub item_next : (s : State) (x : List ℕ) → token syntax fold s (97 ∷ x) ≡ Some (Part (Set (folded fold (one 97))), x)
   unfolding basic_token extended_token
   item_next s x = by_syntax syntax
     where
@@ -336,7 +336,7 @@ module _ (syntax : Syntax) (fold : Bool) where
   some_groups (l ∷ outer) g = omega arith
 
   pub leaves_open : (text : List ℕ) (s : State) → grouped s.outer ≡ true → Leads syntax fold text s []
-      → LeavesOpen syntax text
+      → LeavesOpen syntax 0 text
   leaves_open text s g leads =
       let f = filled text s (length s.outer) refl leads in
       let r = (reaches syntax fold text [] leads).ended refl in
@@ -344,7 +344,7 @@ module _ (syntax : Syntax) (fold : Bool) where
       record {
         fold = fold;
         groups = length s.outer;
-        some = some_groups s.outer g;
+        more = some_groups s.outer g;
         pattern = f.0;
         closed = f.1;
         needed = λ p b. open_end (add q r.0) p (ap grouped r.1 ∙ g)

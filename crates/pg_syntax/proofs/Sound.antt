@@ -99,7 +99,7 @@ abbrev rest_or : List ℕ → Found → List ℕ
 rest_or t None = t
 rest_or t (Some x) = x.1
 
-found : (P : Token → List ℕ → Type 0) (k k' : Token) (t t' : List ℕ) → ◌≡◌ {A = Found} (Some (k, t)) (Some (k', t'))
+pub found : (P : Token → List ℕ → Type 0) (k k' : Token) (t t' : List ℕ) → ◌≡◌ {A = Found} (Some (k, t)) (Some (k', t'))
     → P k t → P k' t'
 found P k k' t t' e p = subst (λ x. P x t') (ap (token_or k) e) (subst (λ x. P k x) (ap (rest_or t) e) p)
 
@@ -670,7 +670,7 @@ module _ (syntax : Syntax) (fold : Bool) where
       (bar_held s.outer s.level.alternatives s.level.sequence s.level.item _ s s' text _
       (ending syntax rest) refl m.1 refl e h)
 
-  next_is : (s s' : State) (t rest : List ℕ) → next syntax fold s t ≡ Some (s', rest) → (k : Token)
+  pub next_is : (s s' : State) (t rest : List ℕ) → next syntax fold s t ≡ Some (s', rest) → (k : Token)
       × (token syntax fold s t ≡ Some (k, rest)) × (after k s ≡ Some s')
   next_is s s' t rest e = go (token syntax fold s t) refl e
     where

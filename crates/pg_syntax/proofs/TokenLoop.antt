@@ -1,15 +1,18 @@
 -- The loop over the tokens.
 use Rattle.std.proofs.Common.{ℕ, ◌≡◌, ◌≢◌, ◌<◌, ◌≤◌, ◌↔◌, inl, inr, Bool, true, false, List, [], ◌∷◌, ◌++◌, length}
-use Rattle.std.proofs.Common.{drop, Option, Some, None, Err, refl, sym, ap, subst, arith, length-drop}
+use Rattle.std.proofs.Common.{drop, Option, Some, None, Err, refl, sym, ap, subst, arith, length-drop, ltb}
 use Rattle.std.proofs.lemmas.Bool.{false≢true}
+use Rattle.std.proofs.lemmas.Bool.Decides.{nat_tests}
 use Rattle.pg_pattern.specs.Patterns.{Pattern, Empty}
 use Rattle.pg_grammar.specs.Grammar as G
 use Rattle.pg_grammar.specs.Grammar.{Spells, Mark, unbrace}
 use Rattle.pg_syntax.specs.Machine as M
 use Rattle.pg_syntax.proofs.Proper.{spelled_proper}
-use Rattle.pg_syntax.specs.Machine.{State, Token, Level, start, whole, grouped, token, after}
-use Rattle.pg_syntax.proofs.Reading.{next, Completes, done, step}
+use Rattle.pg_syntax.specs.Machine.{State, Token, Level, start, whole, grouped, opened, token, after}
+use Rattle.pg_syntax.proofs.Reading.{next, Completes, done, step, next_some, next_no_state}
 use Rattle.pg_syntax.proofs.Onward.{Leads, onward, open_end, leaves_open, leaves_empty}
+use Rattle.pg_syntax.proofs.Prefixes.{leaves_more}
+use Rattle.pg_syntax.proofs.IntervalLemmas.{chosen}
 use Rattle.pg_grammar.specs.Places.{Place, PlaceIn}
 use Rattle.pg_grammar.specs.Results.{IsSpelled, IsRefused, IsFault}
 use Rattle.pg_syntax.specs.Expressions.{kind_of}
@@ -35,27 +38,19 @@ place_of S.Basic kind text at h = h
 place_of S.Extended kind text at h = h
 
 module _ (syntax : Syntax) (fold : Bool) where
-  next_some : (s s' : State) (t rest : List ℕ) (k : Token) → token syntax fold s t ≡ Some (k, rest)
-      → after k s ≡ Some s' → next syntax fold s t ≡ Some (s', rest)
-  next_some s s' t rest k e f = rw (e, f) refl
-
   next_no_token : (s : State) (t : List ℕ) → token syntax fold s t ≡ None → next syntax fold s t ≡ None
   next_no_token s t e = rw e refl
-
-  next_no_state : (s : State) (t rest : List ℕ) (k : Token) → token syntax fold s t ≡ Some (k, rest)
-      → after k s ≡ None → next syntax fold s t ≡ None
-  next_no_state s t rest k e f = rw (e, f) refl
 
   pub keeps_on : (text : List ℕ) (s s' : State) (t rest : List ℕ) (k : Token) → token syntax fold s t ≡ Some (k, rest)
       → after k s ≡ Some s' → Keeps syntax fold text s t → Keeps syntax fold text s' rest
   keeps_on text s s' t rest k e f keeps = λ p. (
-    λ c. stepped syntax fold s s' t rest p (next_some s s' t rest k e f) ((keeps p).0 c),
-    λ c. (keeps p).1 (step (next_some s s' t rest k e f) c),
+    λ c. stepped syntax fold s s' t rest p (next_some syntax fold s s' t rest k e f) ((keeps p).0 c),
+    λ c. (keeps p).1 (step (next_some syntax fold s s' t rest k e f) c),
   )
 
   pub leads_on : (text : List ℕ) (s s' : State) (t rest : List ℕ) (k : Token) → token syntax fold s t ≡ Some (k, rest)
       → after k s ≡ Some s' → Leads syntax fold text s t → Leads syntax fold text s' rest
-  leads_on text s s' t rest k e f leads = onward leads (next_some s s' t rest k e f)
+  leads_on text s s' t rest k e f leads = onward leads (next_some syntax fold s s' t rest k e f)
 
   nothing_spelled : (text : List ℕ) (s : State) (t : List ℕ) → text ≢ [] → t ≢ [] → next syntax fold s t ≡ None
       → Keeps syntax fold text s t → (p : Pattern) → Spells (kind_of syntax) fold text p → ⊥
@@ -68,7 +63,7 @@ module _ (syntax : Syntax) (fold : Bool) where
   pub no_state : (text : List ℕ) (s : State) (t rest : List ℕ) (k : Token) → text ≢ [] → t ≢ []
       → token syntax fold s t ≡ Some (k, rest) → after k s ≡ None → Keeps syntax fold text s t → (p : Pattern)
       → Spells (kind_of syntax) fold text p → ⊥
-  no_state text s t rest k n m e f keeps = nothing_spelled text s t n m (next_no_state s t rest k e f) keeps
+  no_state text s t rest k n m e f keeps = nothing_spelled text s t n m (next_no_state syntax fold s t rest k e f) keeps
 
   empty_end : (s : State) (p : Pattern) → whole s.level ≡ None → Completes syntax fold s [] p → ⊥
   empty_end s p g (done w) = cc
@@ -124,17 +119,33 @@ module _ (syntax : Syntax) (fold : Bool) where
   mark_place Extended text at w rest m n (G.interval {t = t} b) e =
       (123, inr (inr (inr refl)), ((t ++ unbrace Extended) ++ rest, e))
 
+  -- a group is refused within 100 others
+  below : (n : ℕ) → ltb n 100 ≡ false → 99 < n
+  below n e = grind (arith, nat_tests)
+
+  too_many : (s : State) → opened s ≡ None → 99 < length s.outer
+  too_many s e = elim (chosen (ltb (length s.outer) 100) _ _ _ e) [
+    | inl h ↦ absurd (let f : ⊥ = cc (h.1) in f)
+    | inr h ↦ below (length s.outer) h.0
+  ]
+
   pub token_place : (text : List ℕ) (at : ℕ) (s : State) (k : Token) (rest : List ℕ)
-      → token syntax fold s (drop at text) ≡ Some (k, rest) → after k s ≡ None → PlaceIn syntax (blame k) text at
-  token_place text at s (M.Part p) rest e f = cc
-  token_place text at s (M.Anchor p) rest e f = cc
-  token_place text at s (M.Repeat m n) rest e f = let (w, eq, means) = told syntax fold s (drop at text)
-      (M.Repeat m n) rest e in mark_place syntax text at w rest m n means.1 eq
-  token_place text at s M.Open rest e f = let (w, eq, means) = told syntax fold s (drop at text) M.Open rest e in
-      (rest, subst (λ y. drop at text ≡ y ++ rest) means.1 eq)
-  token_place text at s M.Close rest e f = let (w, eq, means) = told syntax fold s (drop at text) M.Close rest e in
+      → token syntax fold s (drop at text) ≡ Some (k, rest) → after k s ≡ None
+      → Leads syntax fold text s (drop at text) → PlaceIn syntax (blame k) text at
+  token_place text at s (M.Part p) rest e f leads = cc
+  token_place text at s (M.Anchor p) rest e f leads = cc
+  token_place text at s (M.Repeat m n) rest e f leads =
+      let (w, eq, means) = told syntax fold s (drop at text) (M.Repeat m n) rest e in
+      mark_place syntax text at w rest m n means.1 eq
+  token_place text at s M.Open rest e f leads =
+      let (w, eq, means) = told syntax fold s (drop at text) M.Open rest e in
+      let opens = subst (λ y. drop at text ≡ y ++ rest) means.1 eq in
+      ((rest, opens), leaves_more syntax fold 99 text at s rest (too_many s f) opens leads)
+  token_place text at s M.Close rest e f leads =
+      let (w, eq, means) = told syntax fold s (drop at text) M.Close rest e in
       inl (rest, subst (λ y. drop at text ≡ y ++ rest) means eq)
-  token_place text at s M.Bar rest e f = let (w, eq, means) = told syntax fold s (drop at text) M.Bar rest e in
+  token_place text at s M.Bar rest e f leads =
+      let (w, eq, means) = told syntax fold s (drop at text) M.Bar rest e in
       inr (inl (means.1, (rest, subst (λ y. drop at text ≡ y ++ rest) means.2 eq)))
 
   pub no_token_fault : (text : List ℕ) (s : State) (t : List ℕ) (f : SyntaxFault) → length text ≤ 4096 → text ≢ []
@@ -149,12 +160,12 @@ module _ (syntax : Syntax) (fold : Bool) where
   pub refused_token : (text : List ℕ) (at : ℕ) (s s' : State) (f : SyntaxFault) (k : Token) (rest : List ℕ)
       → length text ≤ 4096 → text ≢ [] → drop at text ≢ [] → token syntax fold s (drop at text) ≡ Some (k, rest)
       → Applies {A = Unit {0}} (Err f) k s s' at → Keeps syntax fold text s (drop at text)
-      → IsFault (kind_of syntax) fold text f
-  refused_token text at s s' f k rest l n m e (inl h) keeps = inl h
-  refused_token text at s s' f k rest l n m e (inr h) keeps =
+      → Leads syntax fold text s (drop at text) → IsFault (kind_of syntax) fold text f
+  refused_token text at s s' f k rest l n m e (inl h) keeps leads = inl h
+  refused_token text at s s' f k rest l n m e (inr h) keeps leads =
       inr (subst (λ y. IsRefused (kind_of syntax) fold text y) (sym h.1) (record {
         none = no_state text s (drop at text) rest k n m e h.0 keeps;
-        place = place_of syntax (blame k) text at (token_place text at s k rest e h.0);
+        place = place_of syntax (blame k) text at (token_place text at s k rest e h.0 leads);
         long = λ h. absurd (omega arith);
       }))
 

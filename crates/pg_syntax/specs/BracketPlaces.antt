@@ -1,10 +1,9 @@
 -- What stands where the parts of a bracket are read.
-use Rattle.std.specs.Prelude.{ℕ, ◌≡◌, ◌≢◌, ◌≤◌, ◌<◌, List, [], ◌∷◌, length, drop, Option, Some, None, ◌⊎◌}
-use Rattle.pg_grammar.specs.Places.{Stands, StandsInBracket, HasRange, IsBadRange}
+use Rattle.std.specs.Prelude.{ℕ, ◌≡◌, ◌≢◌, ◌≤◌, ◌<◌, List, ◌∷◌, length, drop, Option, Some, None, ◌⊎◌}
+use Rattle.pg_grammar.specs.Places.{StandsInBracket, HasNoEnd, IsBadElement, HasRange, IsBadRange}
 use Rattle.pg_grammar.specs.Brackets as B
 use Rattle.pg_syntax.specs.BracketViews.{element}
 use Rattle.pg_syntax.specs.declared.element.Element.{Element}
-use Rattle.pg_syntax.specs.declared.element.Element.TheVariants.{Single, Enclosed}
 use Rattle.pg_syntax.specs.declared.bracket.Mode.{Mode}
 use Rattle.pg_syntax.specs.declared.bracket.Mode.TheVariants.{Fresh, Held, Dashed, Ranged, Barred}
 use Rattle.pg_syntax.specs.declared.bracket.Reading.{Reading}
@@ -15,20 +14,14 @@ use Rattle.pg_grammar.specs.declared.fault.FaultKind.TheVariants.{UnmatchedBrack
 use Rattle.pg_grammar.specs.declared.fault.FaultKind.TheVariants.{UnmatchedGroup, BadInterval, NothingToRepeat}
 use Rattle.pg_grammar.specs.declared.fault.FaultKind.TheVariants.{EmptyOperand, TooDeep, OutOfMemory, TooLong}
 
--- an element stands at this offset
-abbrev pub At : List ℕ → ℕ → Element → Type 0
-At text at (Single b) = at < length text
-At text at (Enclosed mark content) =
-    (at < length text) × Stands text at (91 ∷ mark ∷ []) × ((mark ≡ 58) ⊎ ((mark ≡ 61) ⊎ (mark ≡ 46)))
-
 -- a fault of this kind can stand at this offset of a bracket
 abbrev pub BracketPlace : FaultKind → List ℕ → ℕ → Type 0
 BracketPlace TrailingBackslash text at = ⊥
 BracketPlace BadEscape text at = ⊥
 BracketPlace BackReference text at = ⊥
-BracketPlace UnmatchedBracket text at = Stands text at (91 ∷ [])
-BracketPlace BadClass text at = Stands text at (91 ∷ 58 ∷ [])
-BracketPlace BadCollating text at = Stands text at (91 ∷ 61 ∷ []) ⊎ Stands text at (91 ∷ 46 ∷ [])
+BracketPlace UnmatchedBracket text at = HasNoEnd text at
+BracketPlace BadClass text at = IsBadElement 58 text at
+BracketPlace BadCollating text at = IsBadElement 61 text at ⊎ IsBadElement 46 text at
 BracketPlace BadRange text at = IsBadRange text at
 BracketPlace UnmatchedGroup text at = ⊥
 BracketPlace BadInterval text at = ⊥
@@ -49,7 +42,6 @@ FaultPlaced text (Some f) = FaultPlace text f
 
 -- an element stands at this offset, inside a bracket, and this follows it
 pub record Holds (text : List ℕ) (at : ℕ) (a : Element) (rest : List ℕ) : Type 0 where
-  pub stands : At text at a
   pub inside : StandsInBracket text at (element a)
   pub front : B.IsFront (element a) (drop at text) rest
 
@@ -78,4 +70,4 @@ pub record GoesOn (text : List ℕ) (mode : Mode) (at : ℕ) (a : Element) (rest
 abbrev pub FindsElement : List ℕ → ℕ → Option (Element × ℕ) → Option (B.Element × List ℕ) → Type 0
 FindsElement text at None found = found ≡ None
 FindsElement text at (Some x) found =
-    (found ≡ Some (element x.0, drop x.1 text)) × At text at x.0 × (at < x.1) × (x.1 ≤ length text)
+    (found ≡ Some (element x.0, drop x.1 text)) × (at < x.1) × (x.1 ≤ length text)

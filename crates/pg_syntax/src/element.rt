@@ -5,7 +5,7 @@ ghost use Rattle.pg_bytes.specs.ByteSets.{bytes};
 ghost use Rattle.pg_grammar.specs.Brackets.{member, end_point, is_dash, only_byte};
 ghost use Rattle.pg_syntax.specs.BracketReading.{range_of, element_at, SingleAt, EnclosedAt};
 ghost use Rattle.pg_syntax.specs.BracketViews.{element};
-ghost use Rattle.pg_syntax.specs.BracketPlaces.{At, FaultPlace, FindsElement};
+ghost use Rattle.pg_syntax.specs.BracketPlaces.{Holds, FaultPlace, FindsElement};
 ghost use Rattle.pg_grammar.specs.Places.{IsBadRange};
 ghost use Rattle.pg_syntax.specs.Reads.{EndsContent};
 
@@ -78,8 +78,8 @@ impl<'a> Element<'a> {
 
     /// The fault of an element that stands for no bytes, at its offset.
     pub(crate) fn fault(self, at: usize) -> SyntaxFault
-        ensures { (text : List ℕ) →
-            member (element self.entry) ≡ None → At text at self.entry → FaultPlace text result }
+        ensures { (text rest : List ℕ) →
+            member (element self.entry) ≡ None → Holds text at self.entry rest → FaultPlace text result }
     {
         let kind = match self {
             Element::Single(_) => FaultKind::BadRange,
@@ -96,7 +96,7 @@ impl<'a> Element<'a> {
 
     /// The fault of the range from this element, at `start`, to the last one, at `at`.
     pub(crate) fn range_fault(self, start: usize, last: Element, at: usize) -> SyntaxFault
-        ensures { (text : List ℕ) → At text start self.entry → At text at last.entry →
+        ensures { (text from rest : List ℕ) → Holds text start self.entry from → Holds text at last.entry rest →
             IsBadRange text start → FaultPlace text result }
     {
         if self.member().is_none() {

@@ -1,10 +1,11 @@
 //! From the bytes of a text to its tokens.
-ghost use Rattle.std.specs.Prelude.{ℕ, List, ◌≡◌, ◌==◌, ◌+◌, ◌<◌, ◌≤◌, [], ◌∷◌, length, drop, Some, None};
+ghost use Rattle.std.specs.Prelude.{ℕ, List, ◌≡◌, ◌==◌, ◌+◌, ◌<◌, ◌≤◌, [], ◌∷◌, ◌++◌, length, drop};
+ghost use Rattle.std.specs.Prelude.{Some, None};
 ghost use Rattle.std.specs.List.{list_any};
 ghost use Rattle.pg_bytes.specs.Sets.{one};
 ghost use Rattle.pg_pattern.specs.Patterns.{Set, folded};
 ghost use Rattle.pg_grammar.specs.Grammar.{is_escaped, brace, unbrace};
-ghost use Rattle.pg_grammar.specs.Places.{PlaceIn, Stands};
+ghost use Rattle.pg_grammar.specs.Places.{PlaceIn, IsUnescaped};
 ghost use Rattle.pg_syntax.specs.IntervalReading.{bounds};
 ghost use Rattle.pg_syntax.specs.BracketReading.{bracket};
 ghost use Rattle.pg_syntax.specs.Machine.{basic_escape, extended_escape, basic_token, extended_other};
@@ -51,7 +52,7 @@ fn is_escaped(syntax: Syntax, byte: u8) -> bool
 
 /// The fault of the backslash before a byte that it neither makes ordinary nor gives a meaning.
 fn escape_fault(byte: u8, at: usize) -> SyntaxFault
-    ensures { (syntax : Syntax) (text rest : List ℕ) →
+    ensures { (syntax : Syntax) (text rest : List ℕ) → IsUnescaped syntax byte →
         drop at text ≡ 92 ∷ byte ∷ rest → PlaceIn syntax result.kind text result.at }
 {
     match byte {
@@ -93,7 +94,7 @@ impl Source<'_> {
 
     /// The repetition of an interval whose bounds stand at `start`, and which opens at `at`.
     fn interval(&self, start: usize, at: usize) -> Found
-        requires opens { Stands self.now.text.now at (brace self.now.syntax) }
+        requires opens { drop at self.now.text.now ≡ brace self.now.syntax ++ drop start self.now.text.now }
         requires behind { at < start }
         requires within { start ≤ length self.now.text.now }
         ensures { Finds self.now.syntax self.now.text.now at result

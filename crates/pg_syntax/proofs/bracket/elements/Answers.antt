@@ -2,10 +2,10 @@ use Rattle.std.proofs.Common.{ℕ, ◌≡◌, ◌+◌, ◌&&◌, Bool, true, fal
 use Rattle.std.proofs.Common.{◌∙◌, ◌-◌, length, sym, inl, inr, refl, arith}
 use Rattle.std.proofs.lemmas.Bool.Decides.{nat_tests}
 use Rattle.pg_syntax.specs.BracketViews.{element, reading}
-use Rattle.pg_syntax.proofs.BracketRuns.{left_more, left_none, left_end, left_close}
-use Rattle.pg_syntax.proofs.BracketAt.{front_of, not_closing, inner, opens_stands}
+use Rattle.pg_syntax.proofs.BracketRuns.{left_more, left_none, left_end, left_close, unended}
+use Rattle.pg_syntax.proofs.BracketAt.{front_of, not_closing, inner}
 use Rattle.pg_grammar.specs.Brackets.{begin, onward}
-use Rattle.pg_syntax.specs.BracketReading.{Fresh, inside_at, rest_of}
+use Rattle.pg_syntax.specs.BracketReading.{Fresh, inside_at, rest_of, unread}
 use Rattle.pg_syntax.proofs.bracket.elements.Goals as goal
 use Rattle.pg_syntax.proofs.bracket.elements.Goals.{in-Ok, in-Err}
 use Rattle.pg_syntax.proofs.bracket.elements.Goals.{else-text-at-eq93-via-then-text-at-eq93+else-not-first}
@@ -42,10 +42,10 @@ returns-in_default c =
     elim c.else-text-at-eq93.branch [
       | else-text-at-eq93-via-then-text-at-eq93+else-not-first w ↦ grind (arith, nat_tests, w.if-not-first.false)
       | else-text-at-eq93-via-else-text-at-eq93 w ↦ grind (arith, nat_tests, w.if-text-at-eq93.false)
-    ] in (
-      left_none _ text _ c.loop-at.first at c.loop-at-test.true differs c.in_default.ensures c.loop-at.invariant.left,
-      opens_stands _ _ c.requires.opens,
-    )
+    ] in
+    let none = left_none _ text _ c.loop-at.first at c.loop-at-test.true differs c.in_default.ensures
+    c.loop-at.invariant.left in
+    (ap (rest_of unread) none, unended text c.args.bracket c.args.start c.requires.opens none)
 
 pub loop-at-init : goal.loop-at-init
 loop-at-init c =
@@ -59,6 +59,7 @@ loop-at-init c =
         enough = omega arith;
         reads = ap (λ s. rest_of (record { mode = Fresh; set = s; bad = false })
             (inside_at (length text - start) true (drop start text))) (sym c.empty.ensures);
+        endless = λ n. n;
       };
       reached = begin;
       begun = inl refl;
@@ -80,15 +81,14 @@ loop-at-preserved c =
     let front = front_of (drop at text) next rest e.0 in
     let kind = not_closing text at c.loop-at.first next rest c.loop-at-test.true differs front in
     record {
-      above = omega (arith, e.2);
-      within = e.3;
+      above = omega (arith, e.1);
+      within = e.2;
       left = left_more _ text (reading c.loop-at.reading) c.loop-at.first at c.in-Some.after next
-          c.loop-at-test.true e.2 differs e.0 (reading c.put.new.self) c.put.ensures.reads c.loop-at.invariant.left;
+          c.loop-at-test.true e.1 differs e.0 (reading c.put.new.self) c.put.ensures.reads c.loop-at.invariant.left;
       reached = onward c.loop-at.invariant.reached front kind;
       begun = inr refl;
       placed = c.put.ensures.placed text rest c.loop-at.invariant.placed (record {
         holds = record {
-          stands = e.1;
           inside = (
             c.args.bracket,
             drop c.args.start text,
@@ -104,7 +104,7 @@ loop-at-preserved c =
     }
 
 pub returns : goal.returns
-returns c = (
-  left_end _ c.args.text.now _ c.loop-at.first c.loop-at.at c.loop-at-test.false c.loop-at.invariant.left,
-  opens_stands _ _ c.requires.opens,
-)
+returns c =
+    let none = left_end _ c.args.text.now _ c.loop-at.first c.loop-at.at c.loop-at-test.false
+    c.loop-at.invariant.left in
+    (ap (rest_of unread) none, unended c.args.text.now c.args.bracket c.args.start c.requires.opens none)

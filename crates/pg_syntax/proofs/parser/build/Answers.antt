@@ -24,7 +24,7 @@ returns-in_err-apply-clause-refused g c =
     rw (p.1, p.2) (refused_token _ _ text c.loop-at.at (state_of c.loop-at.builder) (state_of c.apply.new.builder) _
     (token_of c.in_ok-token.token) (drop c.in_ok-token.next text) c.requires.short c.requires.some
     (nonempty_drop text c.loop-at.at (omega arith))
-    c.in_ok-token.ensures.0 c.in_err-apply.ensures c.loop-at.invariant.keeps)
+    c.in_ok-token.ensures.0 c.in_err-apply.ensures c.loop-at.invariant.keeps c.loop-at.invariant.leads)
 
 pub loop-at-init : goal.loop-at-init
 loop-at-init g c =

@@ -10,11 +10,11 @@ returns-in-Some-clause-placed c = λ text rest p.
       | in-Fresh w ↦ rw w.self-is p.0
       | in-Ranged w ↦ rw w.self-is p.0
       | in-Held w ↦ rw w.self-is (w.add.ensures.placed text p.0
-          (λ none. w.fault.ensures text (sym w.member.ensures ∙ ap (option_map bytes) none)
-          (rw w.in-Held.is at p.1).stands))
+          (λ none. w.fault.ensures text rest (sym w.member.ensures ∙ ap (option_map bytes) none)
+          (rw w.in-Held.is at p.1)))
       | in-Dashed w ↦ rw w.self-is (w.add-in-Dashed.ensures.placed text p.0
-          (λ none. w.fault-in-Dashed.ensures text (sym w.member-in-Dashed.ensures ∙ ap (option_map bytes) none)
-          (rw w.in-Dashed.is at p.1).stands))
+          (λ none. w.fault-in-Dashed.ensures text _ (sym w.member-in-Dashed.ensures ∙ ap (option_map bytes) none)
+          (rw w.in-Dashed.is at p.1)))
       | in-Barred w ↦ rw w.self-is p.0
     ] in
     rw c.in-Some.is at q

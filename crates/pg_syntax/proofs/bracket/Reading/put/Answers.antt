@@ -13,7 +13,7 @@ returns-in-Dashed-clause-placed c = λ text rest p k.
     let high = element c.args.next in
     let inner = behind_dash _ text c.in-Dashed.start c.args.at c.in-Dashed.held c.args.next rest c.in-Dashed.is k in
     let range = ends_range text c.in-Dashed.start c.args.at c.in-Dashed.held c.args.next rest held k.holds inner in (
-      c.add-in-Dashed.ensures.placed text p.0 (λ none. c.range_fault.ensures text held.stands k.holds.stands
+      c.add-in-Dashed.ensures.placed text p.0 (λ none. c.range_fault.ensures text _ rest held k.holds
           (low, high, rest, range, inl (no_range low high (sym c.range.ensures ∙ ap (option_map bytes) none)))),
       inl (low, high, range),
     )
@@ -36,3 +36,10 @@ returns-after-is_dash-2-clause-placed c = λ text rest p k.
       )
       | else-is_dash-2 w ↦ rw w.self-is (p.0, k.holds)
     ]
+
+pub returns-else-is_dash-clause-placed : goal.returns-else-is_dash-clause-placed
+returns-else-is_dash-clause-placed c = λ text rest p k. (
+  c.add.ensures.placed text p.0 (λ none. c.fault.ensures text (drop c.args.at text)
+      (sym c.member.ensures ∙ ap (option_map bytes) none) (rw c.in-Held.is at p.1)),
+  k.holds,
+)
