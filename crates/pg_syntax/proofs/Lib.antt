@@ -13,6 +13,7 @@ pub mod Proper
 pub mod Braces
 pub mod Escapes
 pub mod Literals
+pub mod TokenBytes
 pub mod Onward
 pub mod Prefixes
 pub mod TokenLoop

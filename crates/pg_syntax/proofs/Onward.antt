@@ -1,148 +1,28 @@
 -- What a text becomes that is read to its end, if more of it follows.
-use Rattle.std.proofs.Common.{ℕ, ◌≡◌, ◌≢◌, ◌<◌, ◌⊎◌, inl, inr, Bool, true, false, ◌&&◌, eqb, cond, List, []}
-use Rattle.std.proofs.Common.{◌∷◌, ◌++◌, length, Option, Some, None, is_some, is_none, option_and_then, refl, sym, ap}
+use Rattle.std.proofs.Common.{ℕ, ◌≡◌, ◌≢◌, ◌<◌, ◌⊎◌, inl, inr, Bool, true, false, eqb, cond, List, []}
+use Rattle.std.proofs.Common.{◌∷◌, ◌++◌, length, Option, Some, None, option_and_then, refl, sym, ap}
 use Rattle.std.proofs.Common.{◌∙◌, subst, append_assoc, arith}
-use Rattle.std.proofs.lemmas.Bool.{eqb-true, false≢true}
-use Rattle.pg_bytes.specs.Sets.{Bytes, one, all}
-use Rattle.pg_pattern.specs.Patterns.{Pattern, Set, Begin, End, folded}
-use Rattle.pg_syntax.specs.BracketReading.{bracket}
-use Rattle.pg_syntax.specs.IntervalReading.{bounds}
-use Rattle.pg_grammar.specs.Grammar.{Body, is_escaped, unbrace}
+use Rattle.std.proofs.lemmas.Bool.{eqb-true, eq-eqb, false≢true}
+use Rattle.pg_bytes.specs.Sets.{one}
+use Rattle.pg_pattern.specs.Patterns.{Pattern, Set, End, folded}
+use Rattle.pg_grammar.specs.Grammar.{Body}
 use Rattle.pg_grammar.specs.Places.{closings, LeavesOpen, LeavesEmpty}
-use Rattle.pg_syntax.specs.Machine.{Level, cat, alt, last, whole, State, start, with_item, Token, Part, Anchor, Repeat}
-use Rattle.pg_syntax.specs.Machine.{Open, Close, Bar, add, popped, grouped, after, Found, ends, set_token, repeat_token}
-use Rattle.pg_syntax.specs.Machine.{basic_escape, extended_escape, basic_token, extended_token, token}
+use Rattle.pg_syntax.specs.Machine.{Level, cat, alt, last, whole, State, start, with_item, Token, Part, Anchor}
+use Rattle.pg_syntax.specs.Machine.{Open, add, popped, grouped, after, Found, ends, basic_token, extended_token, token}
 use Rattle.pg_syntax.proofs.Reading.{next, Completes, done, step}
 use Rattle.pg_grammar.specs.declared.syntax.Syntax.{Syntax}
 use Rattle.pg_grammar.specs.declared.syntax.Syntax.TheVariants.{Basic, Extended}
-use Rattle.pg_syntax.proofs.BracketLemmas.{bracket_again, bracket_takes}
-use Rattle.pg_syntax.proofs.IntervalLemmas.{bounds_again, bounds_take}
+use Rattle.pg_syntax.proofs.TokenBytes.{Taken, token_stays}
 use Rattle.pg_syntax.proofs.Complete.{goes, complete, close_token}
 use Rattle.pg_syntax.proofs.Agreement.{stepped, expressed}
 use Rattle.std.proofs.Math.Bool.{and-false}
-use Rattle.pg_syntax.proofs.Sound.{grouped_not, after_rest}
+use Rattle.pg_syntax.proofs.Sound.{ending, grouped_not, after_rest}
 
 -- Read from its start, the text leads to the state, and this rest is left.
 pub data Leads (syntax : Syntax) (fold : Bool) (text : List ℕ) : State → List ℕ → Type 0 where
   begin : Leads syntax fold text start text
   onward : {s s' : State} {t rest : List ℕ} → Leads syntax fold text s t → next syntax fold s t ≡ Some (s', rest)
       → Leads syntax fold text s' rest
-
--- what is found, with more behind it
-abbrev grown : List ℕ → Found → Found
-grown more None = None
-grown more (Some x) = Some (x.0, x.1 ++ more)
-
--- found in the text, the token is found with more behind it too
-abbrev Grows : List ℕ → Found → Found → Type 0
-Grows more o o' = (k : Token) (rest : List ℕ) → o ≡ Some (k, rest) → o' ≡ Some (k, rest ++ more)
-
-layer : (more : List ℕ) (b : Bool) (x x' y y' : Found) → Grows more x x' → Grows more y y'
-    → Grows more (cond b x y) (cond b x' y')
-layer more true x x' y y' h g = h
-layer more false x x' y y' h g = g
-
-leaf : (more : List ℕ) (k : Token) (t : List ℕ) → Grows more (Some (k, t)) (Some (k, t ++ more))
-leaf more k t = λ k' rest e. ap (grown more) e
-
-none_left : (more : List ℕ) (o : Found) → Grows more None o
-none_left more o = λ k rest e. cc
-
-set_grows : (fold : Bool) (more t : List ℕ)
-    → Grows more (set_token (bracket fold (91 ∷ t))) (set_token (bracket fold (91 ∷ t ++ more)))
-set_grows fold more t = go (bracket fold (91 ∷ t)) refl
-  where
-    go : (o : Option (Bytes × List ℕ)) → bracket fold (91 ∷ t) ≡ o
-        → Grows more (set_token o) (set_token (bracket fold (91 ∷ t ++ more)))
-    go None e = none_left more _
-    go (Some (set, rest)) e = λ k r f.
-        let w = bracket_takes fold t set rest e in
-        ap set_token (ap (bracket fold) (ap (λ y. y ++ more) w.1 ∙ append_assoc w.0 rest more)
-        ∙ bracket_again fold w.0 set (rest ++ more) w.2) ∙ ap (grown more) f
-
-repeat_grows : (c : ℕ) (cs : List ℕ) (more t : List ℕ)
-    → ((u : List ℕ) (m : ℕ) (n : Option ℕ) → bounds (c ∷ cs) t ≡ Some (m, n, u)
-    → bounds (c ∷ cs) (t ++ more) ≡ Some (m, n, u ++ more))
-    → Grows more (repeat_token (bounds (c ∷ cs) t)) (repeat_token (bounds (c ∷ cs) (t ++ more)))
-repeat_grows c cs more t h = go (bounds (c ∷ cs) t) refl
-  where
-    go : (o : Option (ℕ × Option ℕ × List ℕ)) → bounds (c ∷ cs) t ≡ o
-        → Grows more (repeat_token o) (repeat_token (bounds (c ∷ cs) (t ++ more)))
-    go None e = none_left more _
-    go (Some (m, n, u)) e = λ k r f. ap repeat_token (h u m n e) ∙ ap (grown more) f
-
-bounds_grow : (syntax : Syntax) (more t : List ℕ)
-    → Grows more (repeat_token (bounds (unbrace syntax) t)) (repeat_token (bounds (unbrace syntax) (t ++ more)))
-bounds_grow Basic more t = repeat_grows 92 (125 ∷ []) more t (λ u m n e.
-    let w = bounds_take (unbrace Basic) t m n u e in
-    ap (bounds (unbrace Basic)) (ap (λ y. y ++ more) w.1 ∙ (append_assoc (w.0 ++ unbrace Basic) u more
-    ∙ append_assoc w.0 (unbrace Basic) (u ++ more)))
-    ∙ bounds_again 92 (125 ∷ []) refl refl w.0 m n (u ++ more) w.2)
-bounds_grow Extended more t = repeat_grows 125 [] more t (λ u m n e.
-    let w = bounds_take (unbrace Extended) t m n u e in
-    ap (bounds (unbrace Extended)) (ap (λ y. y ++ more) w.1 ∙ (append_assoc (w.0 ++ unbrace Extended) u more
-    ∙ append_assoc w.0 (unbrace Extended) (u ++ more)))
-    ∙ bounds_again 125 [] refl refl w.0 m n (u ++ more) w.2)
-
-basic_escape_grows : (fold : Bool) (s : State) (more t : List ℕ)
-    → Grows more (basic_escape fold s t) (basic_escape fold s (t ++ more))
-unfolding basic_escape
-basic_escape_grows fold s more [] = none_left more _
-basic_escape_grows fold s more (c ∷ t) =
-    layer more (eqb c 40) _ _ _ _ (leaf more Open t)
-    (layer more (eqb c 41) _ _ _ _ (layer more (grouped s.outer) _ _ _ _ (leaf more Close t) (none_left more None))
-    (layer more (eqb c 123) _ _ _ _ (bounds_grow Basic more t)
-    (layer more (is_escaped Basic c) _ _ _ _ (leaf more (Part (Set (folded fold (one c)))) t) (none_left more None))))
-
-extended_escape_grows : (fold : Bool) (more t : List ℕ)
-    → Grows more (extended_escape fold t) (extended_escape fold (t ++ more))
-unfolding extended_escape
-extended_escape_grows fold more [] = none_left more _
-extended_escape_grows fold more (c ∷ t) =
-    layer more (is_escaped Extended c) _ _ _ _ (leaf more (Part (Set (folded fold (one c)))) t) (none_left more None)
-
-bracket_grows : (fold : Bool) (b : ℕ) (more t : List ℕ) → eqb b 91 ≡ true
-    → Grows more (set_token (bracket fold (b ∷ t))) (set_token (bracket fold (b ∷ t ++ more)))
-bracket_grows fold b more t e = subst (λ x. Grows more (set_token (bracket fold (x ∷ t)))
-    (set_token (bracket fold (x ∷ t ++ more)))) (sym (eqb-true b 91 e)) (set_grows fold more t)
-
-layer_if : (more : List ℕ) (b : Bool) (x x' y y' : Found) → (b ≡ true → Grows more x x') → Grows more y y'
-    → Grows more (cond b x y) (cond b x' y')
-layer_if more true x x' y y' h g = h refl
-layer_if more false x x' y y' h g = g
-
--- the token of a byte that isn't a `$` whose meaning changes
-basic_grows : (fold : Bool) (s : State) (b : ℕ) (more t : List ℕ)
-    → (eqb b 36 && ends (t ++ more)) ≡ (eqb b 36 && ends t)
-    → Grows more (basic_token fold s b t) (basic_token fold s b (t ++ more))
-unfolding basic_token
-basic_grows fold s b more t same =
-    let item = Part (Set (folded fold (one b))) in
-    layer more (eqb b 92) _ _ _ _ (basic_escape_grows fold s more t)
-    (layer_if more (eqb b 91) _ _ _ _ (bracket_grows fold b more t)
-    (layer more (eqb b 46) _ _ _ _ (leaf more (Part (Set all)) t)
-    (layer more (eqb b 42 && is_some s.level.item) _ _ _ _ (leaf more (Repeat 0 None) t)
-    (layer more (eqb b 94 && is_none (last s.level)) _ _ _ _ (leaf more (Anchor Begin) t)
-    (subst (λ x. Grows more (cond (eqb b 36 && ends t) (Some (Anchor End, t)) (Some (item, t)))
-    (cond x (Some (Anchor End, t ++ more)) (Some (item, t ++ more)))) (sym same)
-    (layer more (eqb b 36 && ends t) _ _ _ _ (leaf more (Anchor End) t) (leaf more item t)))))))
-
-extended_grows : (fold : Bool) (s : State) (b : ℕ) (more t : List ℕ)
-    → Grows more (extended_token fold s b t) (extended_token fold s b (t ++ more))
-unfolding extended_token
-extended_grows fold s b more t =
-    layer more (eqb b 92) _ _ _ _ (extended_escape_grows fold more t)
-    (layer_if more (eqb b 91) _ _ _ _ (bracket_grows fold b more t)
-    (layer more (eqb b 46) _ _ _ _ (leaf more (Part (Set all)) t)
-    (layer more (eqb b 42) _ _ _ _ (leaf more (Repeat 0 None) t)
-    (layer more (eqb b 43) _ _ _ _ (leaf more (Repeat 1 None) t)
-    (layer more (eqb b 63) _ _ _ _ (leaf more (Repeat 0 (Some 1)) t)
-    (layer more (eqb b 123) _ _ _ _ (bounds_grow Extended more t)
-    (layer more (eqb b 40) _ _ _ _ (leaf more Open t)
-    (layer more (eqb b 41 && grouped s.outer) _ _ _ _ (leaf more Close t)
-    (layer more (eqb b 124) _ _ _ _ (leaf more Bar t)
-    (layer more (eqb b 94) _ _ _ _ (leaf more (Anchor Begin) t)
-    (layer more (eqb b 36) _ _ _ _ (leaf more (Part End) t) (leaf more (Part (Set (folded fold (one b)))) t))))))))))))
 
 ends_grow : (m t : List ℕ) → t ≢ [] → ends (t ++ 97 ∷ m) ≡ ends t
 ends_grow m [] n = absurd (n refl)
@@ -168,30 +48,47 @@ abbrev found_rest : Found → List ℕ
 found_rest None = []
 found_rest (Some x) = x.1
 
+-- a `$` takes one byte
+dollar_takes : (fold : Bool) (s : State) (u : List ℕ) (k : Token) (rest : List ℕ)
+    → basic_token fold s 36 u ≡ Some (k, rest) → u ≡ rest
+unfolding basic_token
+dollar_takes fold s u k rest e = go (ends u) e
+  where
+    item : Token
+    item = Part (Set (folded fold (one 36)))
+
+    go : (x : Bool) → cond {A = Found} x (Some (Anchor End, u)) (Some (item, u)) ≡ Some (k, rest) → u ≡ rest
+    go true e = ap found_rest e
+    go false e = ap found_rest e
+
 abbrev state_or : State → Option (State × List ℕ) → State
 state_or s None = s
 state_or s (Some x) = x.0
 
 -- The token at the front is the same with more behind it, or was a `$` at the end and is an ordinary byte now.
-token_more : (syntax : Syntax) (fold : Bool) (s : State) (b : ℕ) (u m : List ℕ) (k : Token) (rest : List ℕ)
-    → token syntax fold s (b ∷ u) ≡ Some (k, rest)
-    → (token syntax fold s (b ∷ u ++ 97 ∷ m) ≡ Some (k, rest ++ 97 ∷ m))
+abbrev IsKept : Syntax → Bool → State → ℕ → (u m : List ℕ) → Token → List ℕ → Type 0
+IsKept syntax fold s b u m k rest = (token syntax fold s (b ∷ u ++ 97 ∷ m) ≡ Some (k, rest ++ 97 ∷ m))
     ⊎ ((k ≡ Anchor End) × (rest ≡ [])
     × (token syntax fold s (b ∷ u ++ 97 ∷ m) ≡ Some (Part (Set (folded fold (one b))), 97 ∷ m)))
-token_more Extended fold s b u m k rest e = inl (extended_grows fold s b (97 ∷ m) u k rest e)
-token_more Basic fold s b (c ∷ u) m k rest e =
-    inl (basic_grows fold s b (97 ∷ m) (c ∷ u) (ap (λ x. eqb b 36 && x) (ends_grow m (c ∷ u) (λ h. cc))) k rest e)
-token_more Basic fold s b [] m k rest e = dollar (eqb b 36) refl
+
+token_more : (syntax : Syntax) (fold : Bool) (s : State) (b : ℕ) (u m : List ℕ) (k : Token) (rest : List ℕ)
+    → token syntax fold s (b ∷ u) ≡ Some (k, rest) → IsKept syntax fold s b u m k rest
+token_more syntax fold s b u m k rest e = by_syntax syntax u ((token_stays syntax fold s b u).taken k rest e) e
   where
+    -- the same bytes are taken
+    same : (x : Syntax) (u : List ℕ) (w : Taken x b (token x fold s) (b ∷ u) k rest)
+        → (b ≡ 36 → ending x (rest ++ 97 ∷ m) ≡ ending x rest)
+        → token x fold s (b ∷ u ++ 97 ∷ m) ≡ Some (k, rest ++ 97 ∷ m)
+    same x u w h = ap (token x fold s) (ap (λ y. y ++ 97 ∷ m) w.is ∙ append_assoc w.bytes rest (97 ∷ m))
+        ∙ w.again (rest ++ 97 ∷ m) h
+
     last : ◌≡◌ {A = Found} (Some (Anchor End, [])) (Some (k, rest)) → (k ≡ Anchor End) × (rest ≡ [])
     last h = (sym (ap found_token h), sym (ap found_rest h))
 
-    dollar : (x : Bool) → eqb b 36 ≡ x → (basic_token fold s b (97 ∷ m) ≡ Some (k, rest ++ 97 ∷ m))
-        ⊎ ((k ≡ Anchor End) × (rest ≡ [])
-        × (basic_token fold s b (97 ∷ m) ≡ Some (Part (Set (folded fold (one b))), 97 ∷ m)))
-    dollar false h = inl (basic_grows fold s b (97 ∷ m) []
-        (ap (λ x. x && ends (97 ∷ m)) h ∙ sym (ap (λ x. x && true) h)) k rest e)
-    dollar true h =
+    dollar : (x : Bool) → eqb b 36 ≡ x → Taken Basic b (token Basic fold s) (b ∷ []) k rest
+        → basic_token fold s b [] ≡ Some (k, rest) → IsKept Basic fold s b [] m k rest
+    dollar false h w e = inl (same Basic [] w (λ is. absurd (false≢true (sym h ∙ eq-eqb b 36 is))))
+    dollar true h w e =
         let is = eqb-true b 36 h in
         let z = last (sym (dollar_last fold s) ∙ (ap (λ x. basic_token fold s x []) (sym is) ∙ e)) in
         inr (
@@ -200,6 +97,18 @@ token_more Basic fold s b [] m k rest e = dollar (eqb b 36) refl
           subst (λ x. basic_token fold s x (97 ∷ m) ≡ Some (Part (Set (folded fold (one x))), 97 ∷ m)) (sym is)
               (dollar_behind fold s m),
         )
+
+    by_syntax : (x : Syntax) (u : List ℕ) → Taken x b (token x fold s) (b ∷ u) k rest
+        → token x fold s (b ∷ u) ≡ Some (k, rest) → IsKept x fold s b u m k rest
+    by_syntax Extended u w e = inl (same Extended u w (λ is. refl))
+    by_syntax Basic [] w e = dollar (eqb b 36) refl w e
+    by_syntax Basic (c ∷ u) w e = inl (same Basic (c ∷ u) w (λ is. ends_grow m rest (some_left is)))
+      where
+        some_left : b ≡ 36 → rest ≢ []
+        some_left is z =
+            let f = subst (λ y. basic_token fold s y (c ∷ u) ≡ Some (k, rest)) is e in
+            let g : c ∷ u ≡ [] = dollar_takes fold s (c ∷ u) k rest f ∙ z in
+            cc
 
 abbrev with_rest : List ℕ → Option State → Option (State × List ℕ)
 with_rest r o = option_and_then (λ x. Some (x, r)) o
