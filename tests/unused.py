@@ -101,7 +101,11 @@ class Names:
     """What names mean in each file."""
 
     def __init__(self, sources):
-        self.items = {it.key: it for source in sources for it in source.items}
+        # A name may stand twice in a module, in blocks with parameters of their own.
+        self.items = defaultdict(set)
+        for source in sources:
+            for it in source.items:
+                self.items[it.key] |= it.words
         self.by_module = defaultdict(set)
         for module, name in self.items:
             self.by_module[module].add(name)
@@ -145,7 +149,7 @@ def reached(names, means, roots):
             continue
         found.add(key)
         table = means[key[0]]
-        waiting += [table[word] for word in names.items[key].words if word in table]
+        waiting += [table[word] for word in names.items[key] if word in table]
     return found
 
 

@@ -2,6 +2,7 @@
 use Rattle.std.proofs.Common.{◌≡◌, ◌∙◌, ap, refl, sym, subst, true, false, true≢false, not, ℕ, Bool, List, [], ◌∷◌}
 use Rattle.std.proofs.Common.{◌++◌, map}
 use Rattle.std.proofs.Common.{Option, Some, None, option_and_then, option_map, is_some, cond, ◌==◌, eqb-true}
+use Rattle.std.proofs.Common.{append_assoc}
 use Rattle.std.proofs.Common.{arith, zero, suc}
 use Rattle.clap.proofs.CutLemmas.{Lacks}
 use Rattle.clap.proofs.LexerLemmas.{name_and_value-at, name_and_value-without}
@@ -308,6 +309,32 @@ module _ (os : List Opt) where
   word_may w b is = subst (λ x. MayWait x (read_word os w)) is (long_or_short_may (long_of w) w)
 
   -- ---- all words
+
+  not_waiting : (r : Read) (v : Text) (next : Option Opt → Uses) → MayWait false r → followed r next
+      ≡ then_uses (closed r v) (next None)
+  not_waiting None v next h = refl
+  not_waiting (Some p) v next h = go p.0 p.1 h
+    where
+      go : (us : List Use) (w : Option Opt) → is_some w ≡ false → followed (Some (us, w)) next
+          ≡ then_uses (closed (Some (us, w)) v) (next None)
+      go us None e = refl
+      go us (Some o) e = cc
+
+  more_uses : (us : List Use) (U V : Uses) → then_uses (Some us) (then_uses U V) ≡ then_uses (then_uses (Some us) U) V
+  more_uses us None V = refl
+  more_uses us (Some vs) None = refl
+  more_uses us (Some vs) (Some ws) = ap (λ (l : List Use). Some l) (sym (append_assoc us vs ws))
+
+  waiting_uses : (r : Read) (v : Text) (V : Uses) (next : Option Opt → Uses) → MayWait true r
+      → ((o : Opt) → next (Some o) ≡ then_uses (valued o v) V)
+      → followed r next ≡ then_uses (closed r v) V
+  waiting_uses None v V next h is = refl
+  waiting_uses (Some p) v V next h is = go p.0 p.1 h
+    where
+      go : (us : List Use) (w : Option Opt) → is_some w ≡ true → followed (Some (us, w)) next
+          ≡ then_uses (closed (Some (us, w)) v) V
+      go us None e = cc
+      go us (Some o) e = ap (then_uses (Some us)) (is o) ∙ more_uses us (valued o v) V
 
   last_refused : (r : Read) → MayWait true r → followed r (uses_from os []) ≡ None
   unfolding uses_from

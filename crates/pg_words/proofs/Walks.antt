@@ -1,11 +1,11 @@
 -- The walk of `clap` over words that hold the values of their options.
-use Rattle.std.proofs.Common.{◌≡◌, ◌∙◌, ap, ap₂, refl, sym, true, false, not, ℕ, Bool, List, [], ◌∷◌, map, Option}
+use Rattle.std.proofs.Common.{◌≡◌, ◌∙◌, ap, ap₂, refl, sym, true, false, not, ℕ, Bool, List, [], ◌∷◌, ◌++◌, map, Option}
 use Rattle.std.proofs.Common.{Some, None, option_map, is_some, option_and_then, ◌≤◌, codes, cond, fold, ◌&&◌, ◌<◌}
-use Rattle.std.proofs.Common.{◌⊎◌, inl, inr, arith, nat_lt, length, ltb-true, ltb-false, eqb-true, ◌==◌, All, suc}
+use Rattle.std.proofs.Common.{◌⊎◌, inl, inr, arith, nat_lt, drop, length, ltb-true, ltb-false, eqb-true, ◌==◌, All, suc}
 use Rattle.std.proofs.Common.{subst}
-use Rattle.std.specs.Prelude.{unwrap_or}
-use Rattle.std.specs.Str.{IsUtf8}
-use Rattle.std.proofs.lemmas.Str.{IsUtf8-drop}
+use Rattle.std.specs.Prelude.{encode_utf8, slice_get, slice_index, encode_utf8_all, unwrap_or}
+use Rattle.std.specs.Str.{chars, IsUtf8}
+use Rattle.std.proofs.lemmas.Str.{encode_ascii, chars_from_encodes, chars_past_char, IsUtf8-drop}
 use Rattle.std.proofs.lemmas.Str.{IsCharBoundary-after_ascii}
 use Rattle.std.specs.Option.{option_map_or}
 use Rattle.std.specs.Str.{bytes_eq}
@@ -105,9 +105,32 @@ lt_or_le x = go (nat_lt x 128) refl
     go true e = inl (ltb-true _ _ e)
     go false e = inr (ltb-false _ _ e)
 
+first_ascii : (x : ℕ) (rest : Text) → IsUtf8 (x ∷ rest) → x < 128 → slice_get (chars (x ∷ rest)) 0 ≡ Some x
+first_ascii x rest utf8 low = ap (λ (l : List ℕ). slice_get l 0)
+    (chars_past_char (x ∷ rest) rest x utf8 (ap (λ (l : List ℕ). l ++ rest) (sym (encode_ascii x low))))
+
+rest_ascii : (x : ℕ) (rest : Text) → x < 128 → drop (length (encode_utf8 x)) (x ∷ rest) ≡ rest
+rest_ascii x rest low = ap (λ (l : List ℕ). drop (length l) (x ∷ rest)) (encode_ascii x low)
+
 utf8_rest : (x : ℕ) (rest : Text) → IsUtf8 (x ∷ rest) → x < 128 → IsUtf8 rest
 utf8_rest x rest utf8 low = IsUtf8-drop (x ∷ rest) 1 utf8
     (IsCharBoundary-after_ascii (x ∷ rest) 0 utf8 (omega arith) low)
+
+first_high : (x : ℕ) (rest : Text) → IsUtf8 (x ∷ rest) → 128 ≤ x → (y : ℕ) × (128 ≤ y)
+    × (slice_get (chars (x ∷ rest)) 0 ≡ Some y)
+first_high x rest utf8 high = go utf8.0 (chars_from_encodes utf8.0 (x ∷ rest) utf8 utf8.1.1) utf8.1.1
+  where
+    go : (cs : List ℕ) → cs ≡ chars (x ∷ rest) → encode_utf8_all cs ≡ x ∷ rest → (y : ℕ) × (128 ≤ y)
+        × (slice_get (chars (x ∷ rest)) 0 ≡ Some y)
+    go [] e spell = cc
+    go (y ∷ cs) e spell = (y, high_first (lt_or_le y), ap (λ (l : List ℕ). slice_get l 0) (sym e))
+      where
+        high_first : (y < 128) ⊎ (128 ≤ y) → 128 ≤ y
+        high_first (inr h) = h
+        high_first (inl low) =
+            let same : y ≡ x = ap (λ (l : List ℕ). slice_index l 0)
+            (ap (λ (l : List ℕ). l ++ encode_utf8_all cs) (sym (encode_ascii y low)) ∙ spell) in
+            omega (arith, same)
 
 -- a fault in the words, or behind the last of them
 abbrev pub Fails : List Rule → Kinds → Walk → Type 0
@@ -371,6 +394,15 @@ module _ (os : List Opt) (c : List Rule) (id_is : arg_by_id c (codes "operands")
       attached_bundles (record o { value = Number low high }) (attached_value rest) rows p refl e
       (λ t. value_use o (Number low high) t (rows_at rows p) refl)
 
+  found_short : (found : Option Opt) (rest : Text) (rows : List Row) (p : Option Text)
+      → (letters_wait os rest ≡ false → Rests rest) → letter_waits found rest (letters_wait os rest) ≡ false
+      → Bundles done (letter found rest (letters os rest))
+      (short_fault c true (option_map frule found) rest (held_at rows p) (flags_fault c true (length rest) rest 0))
+      (short_met c (option_map frule found) rest (held_at rows p) (bundle_met c (length rest) rest 0 done))
+      (rows_at rows p)
+  found_short None rest rows p later e = refl
+  found_short (Some o) rest rows p later e = value_short o o.value rest rows p later e
+
   letters_come : (x : ℕ) (rest : Text) (so_far : Outcome) (rows : List Row) (p : Option Text) → IsUtf8 (x ∷ rest)
       → (x < 128 → letters_wait os rest ≡ false → Rests rest) → letters_wait os (x ∷ rest) ≡ false
       → Bundles done (letters os (x ∷ rest)) (flags_fault c true (length (x ∷ rest)) (x ∷ rest) 0 (held_at rows p))
@@ -556,6 +588,15 @@ module _ (os : List Opt) (c : List Rule) (id_is : arg_by_id c (codes "operands")
       attached_in_vain (record o { value = AnyText }) (attached_value rest) rows p refl id e
   short_in_vain o (Number low high) rest rows p later id e =
       attached_in_vain (record o { value = Number low high }) (attached_value rest) rows p refl id e
+
+  letter_in_vain : (found : Option Opt) (rest : Text) (rows : List Row) (p : Option Text)
+      → (letters_wait os rest ≡ true → VainRests rest) → HasId c found → letter_waits found rest (letters_wait os rest)
+      ≡ true
+      → Vain (short_fault c true (option_map frule found) rest (held_at rows p)
+      (flags_fault c true (length rest) rest 0))
+      (short_met c (option_map frule found) rest (held_at rows p) (bundle_met c (length rest) rest 0 done))
+  letter_in_vain None rest rows p later id e = inl refl
+  letter_in_vain (Some o) rest rows p later id e = short_in_vain o o.value rest rows p later id e
 
   letters_in_vain : (x : ℕ) (rest : Text) (so_far : Outcome) (rows : List Row) (p : Option Text) → IsUtf8 (x ∷ rest)
       → (x < 128 → letters_wait os rest ≡ true → VainRests rest) → letters_wait os (x ∷ rest) ≡ true
