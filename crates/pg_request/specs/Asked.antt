@@ -66,6 +66,7 @@ spares_output mode = shows_rows mode
 abbrev pub input_name : Asked → List ℕ
 input_name asked = unwrap_or asked.label standard_input
 
+-- there are two operands or more
 abbrev pub are_several : List (List ℕ) → Bool
 are_several [] = false
 are_several (file ∷ []) = false
@@ -87,6 +88,7 @@ glob_file (Include glob) = None
 glob_file (Exclude glob) = None
 glob_file (ExcludeFrom path) = Some path
 
+-- a path, if there is one, before others
 abbrev pub before_files : Option (List ℕ) → List (List ℕ) → List (List ℕ)
 before_files None paths = paths
 before_files (Some path) paths = path ∷ paths

@@ -22,23 +22,23 @@ use std::{hint, thread};
 const SPINS: u32 = 500;
 
 /// How long, in microseconds, the calling thread sleeps between two later looks.
-const NAP: u64 = 50;
+const PAUSE: u64 = 50;
 
 /// After so many looks at an empty tray it is given up that the workers' thread begins.
-const PATIENCE: u32 = 5_000;
+const MOST_LOOKS: u32 = 5_000;
 
 /// Waits a little before the next look at an empty tray, after so many looks.
 fn pause<R: Clock>(rt: &R, looks: u32) {
     if looks < SPINS {
         hint::spin_loop();
     } else {
-        thread::sleep(rt, Duration::from_micros(NAP));
+        thread::sleep(rt, Duration::from_micros(PAUSE));
     }
 }
 
 /// Whether nothing more is to be taken after so many looks: all workers have ended, or their thread doesn't begin.
 fn is_over(signs: &Signs, ended: bool, looks: u32) -> bool {
-    ended || (looks >= PATIENCE && !signs.begun.load(Ordering::SeqCst))
+    ended || (looks >= MOST_LOOKS && !signs.begun.load(Ordering::SeqCst))
 }
 
 /// Has the reader make a step, and pauses where it has nothing to do. Counts such looks.

@@ -6,6 +6,7 @@ use Rattle.pg_rows.specs.declared.format.Format.{Format}
 use Rattle.pg_base.specs.Entries.{Entry, Missed, Read, Ending, Running, Ended, Failed, Left, is_running}
 use Rattle.pg_rows.specs.Enough.{is_enough}
 
+-- the file was left: neither its end nor a failure was met
 abbrev pub is_left : Ending → Bool
 is_left Running = false
 is_left Ended = false

@@ -51,6 +51,7 @@ pub record Aim : Type 0 where
   pub out : Stream
   pub told : Stream
 
+-- how the rows of a run look
 abbrev pub format_of : Aim → Format
 format_of aim = aim.setup.format
 
@@ -58,6 +59,7 @@ format_of aim = aim.setup.format
 abbrev pub output_of : Aim → List Step → List ℕ
 output_of aim steps = output aim.query (format_of aim) (entries_of steps)
 
+-- the step may follow on the plan of a run
 abbrev pub MayStep : Aim → List Step → Step → Type 0
 MayStep aim steps step = MayFollow (terminator aim.query) steps step
 

@@ -28,5 +28,6 @@ module _ {A C : Type 0} (view : SearchView (Arc BlockData A) C Searched) where
   abbrev pub AreScratches : ℕ → List C → Type 0
   AreScratches most scratches = (length scratches ≤ most) × All view.fits scratches
 
+  -- that they were made for it has at most one proof
   pub fit_once : (scratches : List C) → IsProp (All view.fits scratches)
   fit_once scratches = Π_prop (λ k. Π_prop (λ d. Π_prop (λ below. view.fits_once _)))

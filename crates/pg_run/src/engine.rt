@@ -34,7 +34,8 @@ const MOST_EMPTY: usize = 1_024;
 
 /// Searches the blocks of files, and has a sequencer put their rows in order.
 ///
-/// A block is searched at once, or waits until its round is searched by several threads.
+/// A block is searched at once, or waits until its round is searched by several threads. Each call needs an engine that
+/// stands behind a plan, as a new one stands behind none, with no failed write; so it does after each call at `Ok`.
 pub(crate) struct Engine<'q, A: Allocator + Copy, Q: BlockSearch<Alloc = A>> {
     pub(crate) alloc: A,
     pub(crate) setup: Setup,

@@ -248,7 +248,8 @@ fn search_files<
 /// `Sink` where a write failed or took no byte, `TooLong` where a line is longer than the setup allows or a file has
 /// more than 2^62 bytes, `TooManyFiles` at file number 2^32, and `OutOfMemory` where a request for memory was refused.
 /// Where the fault isn't `Sink`, no write failed. `out` and `faults` got beginnings of what they would have got; at
-/// `TooLong` and `TooManyFiles` `out` got all of the output of the files before the one that is at fault.
+/// `TooLong` and `TooManyFiles` `out` got all of the output of the files before the one that is at fault, and `faults`
+/// all lines.
 pub fn run<
     R: Threads + Wait + Clock + Sync,
     A: Allocator + Copy + Send + Sync,

@@ -18,11 +18,11 @@ use std::sync::{Arc, Wait};
 use std::thread::Threads;
 use std::time::Clock;
 
-/// Searches files one after the other, as far as that is needed, and writes what the setup's format
-/// asks for to `out`. `faults` gets a line for each name that gives no file and each file whose reading
-/// failed, at once; the others go on. The answer is the exit status: 0 where a line was selected, 1
-/// where none was, and 2 where a name was missed or a reading failed; but with -q 0 where a line was
-/// selected. Nothing was asked of the files yet, and at the end all that they list was given.
+/// Searches files one after the other, as far as that is needed, and writes what the setup's format asks for to `out`.
+/// Unless the setup is silent, `faults` gets a line for each name that gives no file and each file whose reading failed,
+/// at once; the others go on. The answer is the exit status: 0 where a line was selected, 1 where none was, and 2 where
+/// a name was missed or a reading failed; but with -q 0 where a line was selected. Nothing was asked of the files yet,
+/// and at the end all that they list was given, or with -q a line was selected.
 ///
 /// A file isn't read further, and with -q no further one is asked for, once nothing that stands behind
 /// changes what is written. Not more of a file is held than two rounds of blocks and what one read gives.
@@ -36,7 +36,7 @@ use std::time::Clock;
 /// `Run` where the run broke off, by the faults of [`pg_run::run`], or `OutOfMemory` where a request for memory was
 /// refused before it. Where the fault isn't `Sink`, no write failed. `out` and `faults` got beginnings of what they
 /// would have got; at `TooLong` and `TooManyFiles` `out` got all of the output of the files before the one that is at
-/// fault.
+/// fault, and `faults` all lines.
 pub fn run<
     R: Threads + Wait + Clock + Sync,
     A: Allocator + Copy + Send + Sync,
