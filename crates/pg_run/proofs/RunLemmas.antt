@@ -164,7 +164,7 @@ stops_reading aim given given' out told fault b t before =
       written = b.written;
       lines = b.lines;
       faults = part_before aim given given' told grown.0 t grown.1;
-      told = λ of.
+      all_told = λ of.
           let file = b.lines of in
           t.all ∙ ap (λ xs. aim.told.taken ++ when (not aim.setup.silent) xs)
           (sym (left_untold given given' file.name (file.front ++ file.rest) file.earlier before file.newest));
@@ -181,7 +181,7 @@ stops_telling aim given given' out told told' silent line set safe t e w = recor
   written = safe;
   lines = λ of. absurd of;
   faults = part_told aim given given' told told' silent line set t e w.part;
-  told = λ of. absurd of;
+  all_told = λ of. absurd of;
   calm = (tt, tt);
 }
 
@@ -193,7 +193,7 @@ stops_memory aim given out told safe calm t = record {
   written = safe;
   lines = λ of. absurd of;
   faults = told_all aim given told t;
-  told = λ of. absurd of;
+  all_told = λ of. absurd of;
   calm = (calm, t.calm);
 }
 
@@ -497,6 +497,7 @@ module _ {A Q C : Type 0} {asks : Ghosts Q A C} {engine : Engine A Q C asks} {ai
               (room_of b.holds) (inl b.covers) on);
           lines = λ of. absurd (none_at_fault fault aim out' k.cause of);
           faults = told_all aim past.given told d.rests.1;
+          all_told = λ of. d.rests.1.all;
           calm = (k.calm, none_failed fault aim.told told d.rests.1.calm);
         },
         record { left = rightly_left aim past.given left; quiet = d.quiet },
@@ -515,6 +516,7 @@ breaks_first q setup past out told new = (
     written = λ files on. none_taken (output q setup.format files) out.taken;
     lines = λ of. absurd of;
     faults = none_taken (told_of setup.silent past.given) told.taken;
+    all_told = λ of. absurd of;
     calm = (refl, refl);
   },
   subst (λ (p : FilesPast). AreReadRightly q setup p.given) (sym new) (record { left = tt; quiet = λ _. tt }),

@@ -100,7 +100,7 @@ pub record HasStopped (q : Search) (setup : Setup) (given : List Given) (out out
       TakesPart (output q setup.format files) out.taken out'.taken
   pub lines : IsOfAFile fault → GotWholeLines q setup.format (entries_given given) out out'
   pub faults : TakesPart (told_of setup.silent given) told.taken told'.taken
-  pub told : IsOfAFile fault → told'.taken ≡ told.taken ++ told_of setup.silent given
+  pub all_told : IsOfAFile fault → told'.taken ≡ told.taken ++ told_of setup.silent given
   pub calm : NoneFailed fault out out' × NoneFailed fault told told'
 
 -- Each file before the newest was read to its end, but where lines at its front were enough, and with -q no line of
