@@ -88,7 +88,7 @@ pub(crate) struct Counts {
 impl<A: Allocator> Collector<BlockResult<A>> for Counts {
     ghost use Rattle.pg_plan.specs.History.{Past, answer, handed};
     ghost use Rattle.pg_plan.specs.Drains.{Drained, IsSafe, drained};
-    ghost use Rattle.pg_plan.specs.declared.answers.SinkFault.TheVariants.{WriteFailed};
+    ghost use Rattle.pg_plan.specs.declared.answers.SinkFault.TheVariants.{Failed, WriteFailed};
 
     ghost stands = { λ s past. ⊥ };
 
@@ -112,6 +112,7 @@ impl<A: Allocator> Collector<BlockResult<A>> for Counts {
             × Drained result past text × ⊥ }
         ensures safe { (past : Past) → ⊥ → IsSafe past (handed past) }
         ensures cause { IsErrOf result WriteFailed → (W.stream _out.old).failures < (W.stream _out.new).failures }
+        ensures failed { IsErrOf result Failed → W.stream _out.new ≡ W.stream _out.old }
         ensures no_failure { OnOk result ((W.stream _out.new).failures ≡ (W.stream _out.old).failures) }
         ensures never_falls { (W.stream _out.old).failures ≤ (W.stream _out.new).failures }
     {

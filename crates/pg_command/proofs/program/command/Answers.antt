@@ -40,7 +40,7 @@ returns-in-Ok-Search-clause-commands g c =
     (g.W.Sink.stream c.args.out.now) (g.W.Sink.stream c.answer.new.out) (g.E.Sink.stream c.args.err.now)
     (g.E.Sink.stream c.answer.new.err)
     c.answer.result)
-    c.request_on-request.ensures c.answer.ensures.answers)
+    c.request_on-request.ensures.asked c.answer.ensures.answers)
     )
 
 -- why the words aren't taken was told
