@@ -116,7 +116,8 @@ module _ (fold : Bool) (bytes searched : List ℕ) (at : ℕ) (strings : List (L
       let among : Contains strings s = (stands.0, stands.2, stands.3) in
       let low = first.low in
       let from : place ≡ at + k = omega arith in
-      let o = part_place fold bytes searched at is (omega (arith, within)) s k (subst (OccursAt searched s) from stands.4) in
+      let here = subst (OccursAt searched s) from stands.4 in
+      let o = part_place fold bytes searched at is (omega (arith, within)) s k here in
       let none = none_up_to place first.before in
       let in_set = to_literal enough strings s among in
       let line = All-contains (λ l. IsLine E l.text) literals (flagged enough s) alone in_set in

@@ -112,7 +112,9 @@ module _ (m : Nfa) (l : List ℕ) (s : ℕ) where
           λ n j run.
           let to_y = w.4 l (p + 1) (λ f. absurd (true≢false (sym f))) (λ f. absurd (true≢false (sym f))) n j run in
           at.sound w.0 w.2 (suc to_y.0) j (w.1, p + 1, reads_edge (slice_get m.states w.0) l p b w.1 is w.3, to_y.1);
-      complete = λ n j run past. let c = at.complete n j run (omega arith) in crossing m.states l p b S U is (at.closed lt) g.goes c.1 c.0 j c.2 c.3 past;
+      complete = λ n j run past.
+          let c = at.complete n j run (omega arith) in
+          crossing m.states l p b S U is (at.closed lt) g.goes c.1 c.0 j c.2 c.3 past;
       closed = λ more q r h edge.
           g.still q h r (edge_still false false (slice_get m.states q) l (p + 1) r (λ z. absurd (omega arith))
           (λ z. absurd (omega arith)) edge);

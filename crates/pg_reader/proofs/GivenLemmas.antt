@@ -1,6 +1,7 @@
 -- What was given, as one read changes it: for `read_copied` and `read_in_place`.
-use Rattle.std.proofs.Common.{◌≡◌, ◌⊎◌, ◌<◌, ◌^◌, ℕ, zero, suc, Bool, false, List, [], ◌∷◌, ◌++◌, length, take}
-use Rattle.std.proofs.Common.{drop, refl, ap, sym, subst, ◌∙◌}
+use Rattle.std.proofs.Common.{◌≡◌, ◌≢◌, ◌⊎◌, ◌<◌, ◌≤◌, ◌^◌, ℕ, zero, suc, Bool, false, List, [], ◌∷◌, ◌++◌, length}
+use Rattle.std.proofs.Common.{take, drop, refl, ap, sym, subst, ◌∙◌}
+use Rattle.std.proofs.lemmas.List.{append-nil, append_cancel_left, length-take-le}
 use Rattle.std.specs.List.{Any}
 use Rattle.pg_blocks.specs.Lines.{lines}
 use Rattle.pg_base.specs.Entries.{Ending, Left}
@@ -41,3 +42,22 @@ pub too_long_given : (end longest : ℕ) (piece : List ℕ) {given before : List
     → Any (λ line. longest < length line) (lines end (bytes ++ piece)) ⊎ (2 ^ 62 < length (bytes ++ piece))
     → IsTooLong end longest (gave_bytes piece given)
 too_long_given end longest piece e h = subst (IsTooLong end longest) (sym (ap (gave_bytes piece) e)) h
+
+-- a read of some bytes leaves something else than before it
+
+took_some : (n : ℕ) (xs : List ℕ) → n ≤ length xs → (n ≡ 0 → ⊥) → take n xs ≢ []
+took_some n xs low some none = some (sym (length-take-le n xs low) ∙ ap length none)
+
+grows : (piece name bytes : List ℕ) (ending : Ending) (before : List Given) → piece ≢ []
+    → gave_bytes piece (File name bytes ending ∷ before) ≢ File name bytes ending ∷ before
+grows piece name bytes ending before some same =
+    let longer : bytes ++ piece ≡ bytes = cc in
+    some (append_cancel_left bytes piece [] (longer ∙ sym (append-nil bytes)))
+
+pub read_grows : (into : List ℕ) (count : ℕ) {given given' before : List Given} {name bytes : List ℕ}
+    {ending : Ending} → given ≡ File name bytes ending ∷ before → count ≤ length into → (count ≡ 0 → ⊥)
+    → given' ≡ read_given into count given → given' ≢ given
+read_grows into count {before = before} {name = name} {bytes = bytes} {ending = ending} newest low some e same =
+    let piece = take count into in
+    grows piece name bytes ending before (took_some count into low some)
+    (ap (gave_bytes piece) (sym newest) ∙ sym (e ∙ read_some into count _ some) ∙ same ∙ newest)

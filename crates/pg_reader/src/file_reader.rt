@@ -1,5 +1,5 @@
 //! The reader of the open file.
-ghost use Rattle.std.specs.Prelude.{◌≡◌, ◌<◌, vec_len, length, IfSome, IfNone, OnOk};
+ghost use Rattle.std.specs.Prelude.{◌≡◌, ◌≢◌, ◌<◌, vec_len, length, IfSome, IfNone, OnOk};
 ghost use Rattle.pg_blocks.specs.Cutter.{IsCutterAfter, Fed, IsDrained, IsNextBlock, AreAllBlocks};
 ghost use Rattle.pg_blocks.specs.Cutter.{handed, handed_early, HasLinesLeft, KeepsCutter, room_of};
 
@@ -153,7 +153,8 @@ impl<A: Allocator + Copy> FileReader<A> {
     fn read_copied<F: Files>(&mut self, files: &mut F)
         requires room { 0 < vec_len self.old.buffer }
         requires reading { MayBeRead self.old (F.past files.old).given }
-        ensures { HasReadOn F.past F.list self.old files.old self.new files.new }
+        ensures reads { HasReadOn F.past F.list self.old files.old self.new files.new }
+        ensures goes { self.new.came ≡ More → (F.past files.new).given ≢ (F.past files.old).given }
     {
         let Ok(len) = files.read(self.buffer.as_mut_slice()) else {
             self.came = ReadOutcome::Failure;
@@ -171,7 +172,8 @@ impl<A: Allocator + Copy> FileReader<A> {
     /// Reads once, into the cutter's own room, and cuts what came. The file may be read further.
     fn read_in_place<F: Files>(&mut self, files: &mut F)
         requires { MayBeRead self.old (F.past files.old).given }
-        ensures { HasReadOn F.past F.list self.old files.old self.new files.new }
+        ensures reads { HasReadOn F.past F.list self.old files.old self.new files.new }
+        ensures goes { self.new.came ≡ More → (F.past files.new).given ≢ (F.past files.old).given }
     {
         if self.make_room().is_err() {
             self.came = ReadOutcome::Refused(CutFault::OutOfMemory);
@@ -193,12 +195,13 @@ impl<A: Allocator + Copy> FileReader<A> {
     /// Reads the open file once, and cuts what came. The file may be read further: it is the newest that was given, all
     /// that its reads gave was fed to the cutter, and none of them met its end or failed.
     ///
-    /// `came` says what came of it. The cutter is fed all that the read gave, or none of it where it is `Refused`: with
-    /// `LineTooLong` a line is longer than the cutter allows, with `FileTooLong` the file has more than 2^62 bytes, and
-    /// with `OutOfMemory` a request for memory was refused.
+    /// `came` says what came of it; at `More` the file gave some bytes. The cutter is fed all that the read gave, or
+    /// none of it where it is `Refused`: with `LineTooLong` a line is longer than the cutter allows, with `FileTooLong`
+    /// the file has more than 2^62 bytes, and with `OutOfMemory` a request for memory was refused.
     pub fn read<F: Files>(&mut self, files: &mut F)
         requires { MayBeRead self.old (F.past files.old).given }
-        ensures { HasReadOn F.past F.list self.old files.old self.new files.new }
+        ensures reads { HasReadOn F.past F.list self.old files.old self.new files.new }
+        ensures goes { self.new.came ≡ More → (F.past files.new).given ≢ (F.past files.old).given }
     {
         if self.copied_reads == 0 || self.buffer.is_empty() {
             self.read_in_place(files);

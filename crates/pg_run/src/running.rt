@@ -233,10 +233,10 @@ fn search_files<
 
 /// Searches files one after the other, as far as that is needed, and writes what the setup's format asks for to `out`:
 /// of the lines that the selector selects, which the query finds in each block whose lines have at most 2^30 bytes.
-/// Unless the setup is silent, `faults` gets a line for each name that gives no file and each file whose reading failed,
-/// at once; the others go on. The answer is the exit status: 0 where a line was selected, 1 where none was, and 2 where
-/// a name was missed or a reading failed; but with -q 0 where a line was selected. Nothing was asked of the files yet,
-/// and at the end all that they list was given, or with -q a line was selected.
+/// Unless the setup is silent, `faults` gets a line for each name that gives no file and each file whose reading
+/// failed, at once; the others go on. The answer is the exit status: 0 where a line was selected, 1 where none was, and
+/// 2 where a name was missed or a reading failed; but with -q 0 where a line was selected. Nothing was asked of the
+/// files yet, and at the end all that they list was given, or with -q a line was selected.
 ///
 /// A file isn't read further, and with -q no further one is asked for, once nothing that stands behind
 /// changes what is written. Not more of a file is held than two rounds of blocks and what one read gives.

@@ -21,8 +21,9 @@ file_short end (Announces b ∷ p) h =
     let all = ap length (flat_map-append (λ (x : BlockData). x.bytes) (last_blocks p) (b ∷ [])) in
     let total = length-append (joined (last_blocks p)) (b.bytes ++ []) in
     let one = length-append b.bytes [] in
+    let some = some_bytes b.bytes h.0.0.some in
     record {
-      bytes = omega (arith, before.bytes, all, total, one, length_push (last_blocks p) b, some_bytes b.bytes h.0.0.some);
+      bytes = omega (arith, before.bytes, all, total, one, length_push (last_blocks p) b, some);
       small = omega (arith, all, total, one, h.0.1.small);
     }
 file_short end (Ends failed ∷ p) h =

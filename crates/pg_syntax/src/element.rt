@@ -76,7 +76,7 @@ impl<'a> Element<'a> {
         }
     }
 
-    /// The fault of an element that stands for no bytes, at its offset.
+    /// The fault of an element that stands at this offset, inside a bracket, and stands for no bytes.
     pub(crate) fn fault(self, at: usize) -> SyntaxFault
         ensures { (text rest : List ℕ) →
             member (element self.entry) ≡ None → Holds text at self.entry rest → FaultPlace text result }
@@ -94,7 +94,8 @@ impl<'a> Element<'a> {
         SyntaxFault { kind, at }
     }
 
-    /// The fault of the range from this element, at `start`, to the last one, at `at`.
+    /// The fault of the range from this element, at `start`, to the last one, at `at`, both inside a bracket: no range
+    /// joins the two.
     pub(crate) fn range_fault(self, start: usize, last: Element, at: usize) -> SyntaxFault
         ensures { (text from rest : List ℕ) → Holds text start self.entry from → Holds text at last.entry rest →
             IsBadRange text start → FaultPlace text result }

@@ -92,7 +92,8 @@ impl Source<'_> {
         Token::Set(folded(one(byte), self.fold))
     }
 
-    /// The repetition of an interval whose bounds stand at `start`, and which opens at `at`.
+    /// The repetition of an interval: what opens it stands at `at`, and its bounds right behind that, at `start`, which
+    /// may be the end of the text.
     fn interval(&self, start: usize, at: usize) -> Found
         requires opens { drop at self.now.text.now ≡ brace self.now.syntax ++ drop start self.now.text.now }
         requires behind { at < start }

@@ -7,5 +7,5 @@ read_copied-requires-clause-reading g c =
     let r = c.requires.fed in
     record { more = c.requires.more; fed = (r.0, r.1, same_fed r.2 _ r.2.cut refl) }
 
-pub returns : goal.returns
-returns g c = reads_further (has_stayed _ (λ fed stands. stands) refl) c.read_copied.ensures
+pub returns-clause-reads : goal.returns-clause-reads
+returns-clause-reads g c = reads_further (has_stayed _ (λ fed stands. stands) refl) c.read_copied.ensures.reads

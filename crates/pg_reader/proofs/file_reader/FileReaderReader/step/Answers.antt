@@ -12,13 +12,13 @@ pub returns-clause-ready : goal.returns-clause-ready
 returns-clause-ready g c =
     let r = c.requires in
     let room = c.make_room.ensures in
-    let m = c.read.ensures.feeds r.0 r.1 (same_fed r.2 _ (room.keeps.stands r.0 r.2.cut) room.came) in
+    let m = c.read.ensures.reads.feeds r.0 r.1 (same_fed r.2 _ (room.keeps.stands r.0 r.2.cut) room.came) in
     (_, m.lost, m.feeds)
 
 pub returns-clause-reaches : goal.returns-clause-reaches
 returns-clause-reaches g c = λ reader files before.
     let room = c.make_room.ensures in
-    reads_further (reads_further before (has_stayed _ room.keeps.stands room.came)) c.read.ensures
+    reads_further (reads_further before (has_stayed _ room.keeps.stands room.came)) c.read.ensures.reads
 
 pub returns-then-is_err-clause-ready : goal.returns-then-is_err-clause-ready
 returns-then-is_err-clause-ready g c =
