@@ -239,7 +239,8 @@ impl<'q, A: Allocator + Copy, Q: BlockSearch<Alloc = A>> Engine<'q, A, Q> {
 
     /// Has the writer send on the rows that it holds back, where that is due.
     pub(crate) fn send_on<W: Sink>(&self, is_due: bool, out: &mut W) -> Result<(), RunFault>
-        ensures { KeepsPlan self.now self.now (W.stream out.old) (W.stream out.new) result }
+        ensures keeps { KeepsPlan self.now self.now (W.stream out.old) (W.stream out.new) result }
+        ensures taken { (W.stream out.new).taken ≡ (W.stream out.old).taken }
     {
         if !is_due {
             return Ok(());
@@ -479,6 +480,25 @@ impl<A: Allocator + Copy + Send + Sync, Q: BlockSearch<Alloc = A, Scratch: Send>
         self.flush(rt, out)
     }
 
+    /// Searches the blocks that wait, if there are any, and has all rows sent on, where that is due: before a fault line,
+    /// which belongs behind them.
+    pub(crate) fn send_rows<R: Threads + Wait + Clock + Sync, W: Sink>(
+        &mut self,
+        rt: &R,
+        is_due: bool,
+        out: &mut W,
+    ) -> Result<(), RunFault>
+        requires holds { HasSomePlan self.old (W.stream out.old) }
+        ensures { KeepsPlan self.old self.new (W.stream out.old) (W.stream out.new) result }
+    {
+        if !is_due {
+            return Ok(());
+        }
+        self.flush_waiting(rt, out)?;
+        self.send_on(true, out)?;
+        Ok(())
+    }
+
     /// Writes what the files give that have ended, unless blocks wait for their round, and no more files wait behind
     /// them than may.
     pub(crate) fn flush_ended<R: Threads + Wait + Clock + Sync, W: Sink>(
@@ -495,8 +515,8 @@ impl<A: Allocator + Copy + Send + Sync, Q: BlockSearch<Alloc = A, Scratch: Send>
         self.flush(rt, out)
     }
 
-    /// Searches what waits and has its rows written, before the run breaks off by this fault. Answers it, or the fault
-    /// by which that broke off.
+    /// Searches what waits and has its rows sent on, before the run breaks off by this fault. Answers it, or the fault by
+    /// which that broke off.
     pub(crate) fn break_off<R: Threads + Wait + Clock + Sync, W: Sink>(
         &mut self,
         rt: &R,
@@ -508,7 +528,10 @@ impl<A: Allocator + Copy + Send + Sync, Q: BlockSearch<Alloc = A, Scratch: Send>
             IsWrittenFirst aim steps (W.stream out.new) fault result }
     {
         match self.flush(rt, out) {
-            Ok(()) => fault,
+            Ok(()) => match self.send_on(true, out) {
+                Ok(()) => fault,
+                Err(failure) => failure,
+            },
             Err(failure) => failure,
         }
     }

@@ -212,7 +212,8 @@ fn search_last<R: Clock, A: Allocator + Copy, Q: BlockSearch<Alloc = A>, W: Sink
 }
 
 /// Ends the open file, and answers whether a read of it failed. What it gives is written, unless blocks wait for their
-/// round. It is sent on where each row is to be seen at once, and before a failed read is told.
+/// round. It is sent on where each row is to be seen at once; and before a failed read is told all rows are, of blocks
+/// that wait too.
 fn end_file<
     R: Threads + Wait + Clock + Sync,
     A: Allocator + Copy + Send + Sync,
@@ -227,8 +228,9 @@ fn end_file<
 {
     engine.end(failed);
     engine.flush_ended(rt, out)?;
-    let is_due = engine.setup.line_buffered || failed && !engine.setup.silent;
-    engine.send_on(is_due, out)?;
+    let tells = failed && !engine.setup.silent;
+    engine.send_rows(rt, tells, out)?;
+    engine.send_on(engine.setup.line_buffered, out)?;
     Ok(failed)
 }
 

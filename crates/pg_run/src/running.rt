@@ -54,8 +54,15 @@ fn tell_fault<A: Allocator + Copy, E: Sink>(
     }
 }
 
-/// Tells and notes a name that gives no file. The rows of those before it are sent on before.
-fn miss<A: Allocator + Copy, Q: BlockSearch<Alloc = A>, W: Sink, E: Sink>(
+/// Tells and notes a name that gives no file. The rows of the files before it are sent on before it is told.
+fn miss<
+    R: Threads + Wait + Clock + Sync,
+    A: Allocator + Copy + Send + Sync,
+    Q: BlockSearch<Alloc = A, Scratch: Send> + Sync,
+    W: Sink,
+    E: Sink,
+>(
+    rt: &R,
     engine: &mut Engine<'_, A, Q>,
     name: &[u8],
     cause: Cause,
@@ -66,7 +73,8 @@ fn miss<A: Allocator + Copy, Q: BlockSearch<Alloc = A>, W: Sink, E: Sink>(
     ensures { (given : List Given) → TellsOn engine.old engine.new given (NoFile name.now cause ∷ given)
         (W.stream out.old) (W.stream out.new) (E.stream faults.old) (E.stream faults.new) result }
 {
-    engine.send_on(!engine.setup.silent, out)?;
+    let tells = !engine.setup.silent;
+    engine.send_rows(rt, tells, out)?;
     tell_fault(engine.alloc, engine.setup.silent, name, cause, faults)?;
     engine.miss(name)?;
     Ok(())
@@ -157,7 +165,7 @@ fn take_next<
     match files.next()? {
         Step::Done => Ok(false),
         Step::Miss(cause) => {
-            miss(engine, files.name(), cause, out, faults)?;
+            miss(rt, engine, files.name(), cause, out, faults)?;
             Ok(true)
         }
         Step::File => {

@@ -54,7 +54,7 @@ loop-preserved g c =
           let k = c.in_ok-search.ensures aim h.steps (h.holds, next_may h.cuts c.in-Some-take.block n) in
           record {
             steps = _;
-            holds = c.in_ok-send_on.ensures aim _ k.0;
+            holds = c.in_ok-send_on.ensures.keeps aim _ k.0;
             cuts = next_taken h.cuts _ c.in-Some-take.block h.cuts.fed.early e.came n (e.stands h.cuts.fed h.cuts.cut);
           };
     }
@@ -94,5 +94,5 @@ returns-in_err-send_on-clause-outcome g c = λ aim start.
     let fault = c.in_err-send_on.field-0.0 in
     fails_by c.from_residual-in_err-send_on.result _ _ c.from_residual-in_err-send_on.ensures.1
     (next_breaks h block out' fault n
-    (c.in_err-send_on.ensures aim _
+    (c.in_err-send_on.ensures.keeps aim _
     (c.in_ok-search.ensures aim h.steps (h.holds, next_may h.cuts block n)).0))

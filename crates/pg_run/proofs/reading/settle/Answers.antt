@@ -30,10 +30,10 @@ returns-in_err-send_on-clause-outcome g c = λ given aim h.
     let holds = c.in_ok-flush_waiting.ensures aim k.steps k.holds in
     let fault = c.in_err-send_on.field-0.0 in
     fails_by c.from_residual-in_err-send_on.result _ _ c.from_residual-in_err-send_on.ensures.1
-    (rest_breaks k _ given out' fault k.cuts (c.in_err-send_on.ensures aim k.steps holds))
+    (rest_breaks k _ given out' fault k.cuts (c.in_err-send_on.ensures.keeps aim k.steps holds))
 
 pub returns-clause-outcome : goal.returns-clause-outcome
 returns-clause-outcome g c = λ given aim h.
     let k = c.in_ok-search_lines.ensures.outcome given aim h in
     flushed k _ _
-    (c.in_ok-send_on.ensures aim k.steps (c.in_ok-flush_waiting.ensures aim k.steps k.holds))
+    (c.in_ok-send_on.ensures.keeps aim k.steps (c.in_ok-flush_waiting.ensures aim k.steps k.holds))
