@@ -4,3 +4,4 @@ pub mod WalkLemmas
 pub mod PlaceLemmas
 pub mod LongestLemmas
 pub mod ShortLemmas
+pub mod WholeLemmas

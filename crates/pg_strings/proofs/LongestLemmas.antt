@@ -2,17 +2,14 @@
 use Rattle.std.proofs.Common.{◌≡◌, ℕ, ◌<◌, ◌≤◌, List, [], length, take, get_or, sym, ap, ◌∙◌, arith, subst}
 use Rattle.std.proofs.Common.{inl, inr, ◌↔◌, IsTrue, Bool, zero-add}
 use Rattle.std.specs.Prelude.{Contains, nat_eq}
-use Rattle.std.specs.List.{All, Any}
+use Rattle.std.specs.List.{All}
 use Rattle.std.proofs.Math.Seq.{take-length}
 use Rattle.std.proofs.lemmas.Bool.{eqb-true, eq-eqb}
 use Rattle.memchr.proofs.lemmas.MatchLemmas.{OccursAt-part}
 use Rattle.std.proofs.lemmas.Bool.{cases_lt}
 use Rattle.std.proofs.lemmas.List.{get_or_default}
 use Rattle.memchr.specs.Find.{OccursAt}
-
--- a string of this length stands at the place
-abbrev pub StandsSo : List (List ℕ) → List ℕ → ℕ → ℕ → Type 0
-StandsSo strings bytes place n = Any (λ string. OccursAt bytes string place × (length string ≡ n)) strings
+use Rattle.pg_strings.specs.Sets.{StandsSo}
 
 -- a string of the length that is kept stands there, after one more string too
 pub kept_stands : (strings : List (List ℕ)) (bytes : List ℕ) (place i before : ℕ) (string : List ℕ) (kept : ℕ)

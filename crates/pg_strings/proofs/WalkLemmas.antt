@@ -11,47 +11,47 @@ use Rattle.pg_strings.specs.Keys.{key, home, Weighs, AreLong, AreChains}
 use Rattle.pg_strings.proofs.KeyLemmas.{key_at_place}
 
 -- what was seen of a chain, from its end down to a link: P holds of the strings behind the link
-pub record IsWalked (P : List ℕ → Type 0) (factor : ℕ) (strings : List (List ℕ)) (link h : ℕ) : Type 0 where
-  pub own : 0 < link → home factor (get_or strings (link - 1) []) ≡ h
-  pub seen : (i : ℕ) → i < length strings → link ≤ i → home factor (get_or strings i []) ≡ h → P (get_or strings i [])
+pub record IsWalked (P : List ℕ → Type 0) (H : List ℕ → ℕ) (strings : List (List ℕ)) (link h : ℕ) : Type 0 where
+  pub own : 0 < link → H (get_or strings (link - 1) []) ≡ h
+  pub seen : (i : ℕ) → i < length strings → link ≤ i → H (get_or strings i []) ≡ h → P (get_or strings i [])
 
-home_of : (factor : ℕ) (strings : List (List ℕ)) (i : ℕ) → i < length strings
-    → slice_index (map (home factor) strings) i ≡ home factor (get_or strings i [])
-home_of factor strings i less = get_or-map (home factor) strings i [] 0 less
+home_of : (H : List ℕ → ℕ) (strings : List (List ℕ)) (i : ℕ) → i < length strings
+    → slice_index (map H strings) i ≡ H (get_or strings i [])
+home_of H strings i less = get_or-map H strings i [] 0 less
 
 -- at the last string of a chain nothing has to be seen
-walk_starts : (P : List ℕ → Type 0) (factor : ℕ) (strings : List (List ℕ)) (first next : List ℕ) (h : ℕ) → h < 8192
-    → AreChains first next (map (home factor) strings) → IsWalked P factor strings (slice_index first h) h
-walk_starts P factor strings first next h within chains =
-    let len = length-map strings (home factor) in
+walk_starts : (P : List ℕ → Type 0) (H : List ℕ → ℕ) (strings : List (List ℕ)) (first next : List ℕ) (h : ℕ) → h < 8192
+    → AreChains first next (map H strings) → IsWalked P H strings (slice_index first h) h
+walk_starts P H strings first next h within chains =
+    let len = length-map strings H in
     let top = chains.starts h within in
     record {
-      own = λ some. sym (home_of factor strings (slice_index first h - 1) (omega (arith, some, top, len)))
+      own = λ some. sym (home_of H strings (slice_index first h - 1) (omega (arith, some, top, len)))
           ∙ chains.own h within some;
       seen = λ i less low is.
-          let at : slice_index (map (home factor) strings) i ≡ h = home_of factor strings i less ∙ is in
+          let at : slice_index (map H strings) i ≡ h = home_of H strings i less ∙ is in
           let covered = chains.covers h i (omega (arith, less, len)) at in
           absurd (omega (arith, covered, low));
     }
 
 -- where P holds of the string at the link, the walk goes on to the one before it
-walk_goes_on : (P : List ℕ → Type 0) (factor : ℕ) (strings : List (List ℕ)) (first next : List ℕ) (link h : ℕ)
-    → AreChains first next (map (home factor) strings) → 0 < link → link ≤ length strings
-    → IsWalked P factor strings link h → P (get_or strings (link - 1) [])
-    → IsWalked P factor strings (slice_index next (link - 1)) h
-walk_goes_on P factor strings first next link h chains some within walked last =
-    let len = length-map strings (home factor) in
+walk_goes_on : (P : List ℕ → Type 0) (H : List ℕ → ℕ) (strings : List (List ℕ)) (first next : List ℕ) (link h : ℕ)
+    → AreChains first next (map H strings) → 0 < link → link ≤ length strings
+    → IsWalked P H strings link h → P (get_or strings (link - 1) [])
+    → IsWalked P H strings (slice_index next (link - 1)) h
+walk_goes_on P H strings first next link h chains some within walked last =
+    let len = length-map strings H in
     let less : link - 1 < length strings = omega (arith, some, within) in
-    let less' : link - 1 < length (map (home factor) strings) = omega (arith, less, len) in
+    let less' : link - 1 < length (map H strings) = omega (arith, less, len) in
     let falls = chains.falls (link - 1) less' in
-    let here : slice_index (map (home factor) strings) (link - 1) ≡ h =
-    home_of factor strings (link - 1) less ∙ walked.own some in
+    let here : slice_index (map H strings) (link - 1) ≡ h =
+    home_of H strings (link - 1) less ∙ walked.own some in
     record {
-      own = λ more. sym (home_of factor strings (slice_index next (link - 1) - 1) (omega (arith, more, falls, less)))
+      own = λ more. sym (home_of H strings (slice_index next (link - 1) - 1) (omega (arith, more, falls, less)))
           ∙ (chains.own_before (link - 1) less' more ∙ here);
       seen = λ i low behind is. elim (cases_lt i (link - 1)) [
         | inl before ↦
-            let at : slice_index (map (home factor) strings) i ≡ h = home_of factor strings i low ∙ is in
+            let at : slice_index (map H strings) i ≡ h = home_of H strings i low ∙ is in
             let covered = chains.covers_before i (link - 1) before less' (at ∙ sym here) in
             absurd (omega (arith, covered, behind))
         | inr after ↦ elim (cases_lt (link - 1) i) [
@@ -64,50 +64,50 @@ walk_goes_on P factor strings first next link h chains some within walked last =
     }
 
 -- the walk begins at the link that was read
-pub walk_first : (P : List ℕ → Type 0) (factor : ℕ) (strings : List (List ℕ)) (first next : List ℕ) (h link : ℕ)
+pub walk_first : (P : List ℕ → Type 0) (H : List ℕ → ℕ) (strings : List (List ℕ)) (first next : List ℕ) (h link : ℕ)
     → h < 8192
-    → AreChains first next (map (home factor) strings) → link ≡ get_or first h link
-    → (link ≤ length strings) × IsWalked P factor strings link h
-walk_first P factor strings first next h link within chains read =
+    → AreChains first next (map H strings) → link ≡ get_or first h link
+    → (link ≤ length strings) × IsWalked P H strings link h
+walk_first P H strings first next h link within chains read =
     let count = chains.count in
     let top = chains.starts h within in
     let at : link ≡ get_or first h 0 = read ∙ get_or_default first h link 0 (omega (arith, within, count)) in (
-      omega (arith, at, top, length-map strings (home factor)),
-      subst (λ l. IsWalked P factor strings l h) (sym at) (walk_starts P factor strings first next h within chains),
+      omega (arith, at, top, length-map strings H),
+      subst (λ l. IsWalked P H strings l h) (sym at) (walk_starts P H strings first next h within chains),
     )
 
 -- and goes on at the one that was read there
-pub walk_next : (P : List ℕ → Type 0) (factor : ℕ) (strings : List (List ℕ)) (first next : List ℕ) (link h before : ℕ)
-    → AreChains first next (map (home factor) strings) → 0 < link → link ≤ length strings
-    → IsWalked P factor strings link h → P (get_or strings (link - 1) []) → before ≡ get_or next (link - 1) before
-    → (before ≤ link - 1) × IsWalked P factor strings before h
-walk_next P factor strings first next link h before chains some within walked last read =
-    let len = length-map strings (home factor) in
+pub walk_next : (P : List ℕ → Type 0) (H : List ℕ → ℕ) (strings : List (List ℕ)) (first next : List ℕ) (link h before : ℕ)
+    → AreChains first next (map H strings) → 0 < link → link ≤ length strings
+    → IsWalked P H strings link h → P (get_or strings (link - 1) []) → before ≡ get_or next (link - 1) before
+    → (before ≤ link - 1) × IsWalked P H strings before h
+walk_next P H strings first next link h before chains some within walked last read =
+    let len = length-map strings H in
     let links = chains.links in
-    let less : link - 1 < length (map (home factor) strings) = omega (arith, some, within, len) in
+    let less : link - 1 < length (map H strings) = omega (arith, some, within, len) in
     let at : before ≡ get_or next (link - 1) 0 =
     read ∙ get_or_default next (link - 1) before 0 (omega (arith, less, links)) in (
       omega (arith, at, chains.falls (link - 1) less),
-      subst (λ l. IsWalked P factor strings l h) (sym at)
-          (walk_goes_on P factor strings first next link h chains some within walked last),
+      subst (λ l. IsWalked P H strings l h) (sym at)
+          (walk_goes_on P H strings first next link h chains some within walked last),
     )
 
 -- the link before is less
-pub link_falls : (factor : ℕ) (strings : List (List ℕ)) (first next : List ℕ) (link before : ℕ)
-    → AreChains first next (map (home factor) strings) → 0 < link → link ≤ length strings
+pub link_falls : (H : List ℕ → ℕ) (strings : List (List ℕ)) (first next : List ℕ) (link before : ℕ)
+    → AreChains first next (map H strings) → 0 < link → link ≤ length strings
     → before ≡ get_or next (link - 1) before → before < link
-link_falls factor strings first next link before chains some within read =
-    let len = length-map strings (home factor) in
+link_falls H strings first next link before chains some within read =
+    let len = length-map strings H in
     let links = chains.links in
-    let less : link - 1 < length (map (home factor) strings) = omega (arith, some, within, len) in
+    let less : link - 1 < length (map H strings) = omega (arith, some, within, len) in
     let at : before ≡ get_or next (link - 1) 0 =
     read ∙ get_or_default next (link - 1) before 0 (omega (arith, less, links)) in
     omega (arith, at, chains.falls (link - 1) less, some)
 
 -- what was seen holds of less
-pub walk_weaker : (P Q : List ℕ → Type 0) (factor : ℕ) (strings : List (List ℕ)) (link h : ℕ)
-    → ((string : List ℕ) → P string → Q string) → IsWalked P factor strings link h → IsWalked Q factor strings link h
-walk_weaker P Q factor strings link h weaker walked = record {
+pub walk_weaker : (P Q : List ℕ → Type 0) (H : List ℕ → ℕ) (strings : List (List ℕ)) (link h : ℕ)
+    → ((string : List ℕ) → P string → Q string) → IsWalked P H strings link h → IsWalked Q H strings link h
+walk_weaker P Q H strings link h weaker walked = record {
   own = walked.own;
   seen = λ i less low is. weaker (get_or strings i []) (walked.seen i less low is);
 }
@@ -115,7 +115,7 @@ walk_weaker P Q factor strings link h weaker walked = record {
 -- at the end of the chain of a place, P holds of all strings of three bytes and more that stand there
 pub walk_ends : (P : List ℕ → Type 0) (factor width : ℕ) (strings : List (List ℕ)) (bytes : List ℕ) (place h : ℕ)
     → Weighs factor width → AreLong width strings → h ≡ key factor (drop place bytes) / 16
-    → IsWalked P factor strings 0 h → (i : ℕ) (string : List ℕ) → i < length strings → get_or strings i string ≡ string
+    → IsWalked P (home factor) strings 0 h → (i : ℕ) (string : List ℕ) → i < length strings → get_or strings i string ≡ string
     → 3 ≤ length string → OccursAt bytes string place → P string
 walk_ends P factor width strings bytes place h weighs are_long e walked i string less is three occurs =
     let at : get_or strings i [] ≡ string = get_or_default strings i [] string less ∙ is in

@@ -3,11 +3,13 @@ ghost use Rattle.std.specs.Prelude.{◌≡◌, ◌≤◌, length, map, IfOk};
 ghost use Rattle.std.specs.List.{All};
 ghost use Rattle.pg_strings.specs.Keys.{AreLong, items_of};
 ghost use Rattle.pg_strings.specs.Outcomes.{strings_of};
+ghost use Rattle.pg_strings.specs.Whole.{KnowsWhole};
 
-use crate::chains::Chains;
+use crate::chains::{CHAINS, Chains};
 use crate::key::{KEYS, SHARE, factor_of, last_key_at};
 use crate::set::StringSet;
 use crate::short::ShortStrings;
+use crate::whole::{WholeStrings, has_long_chain};
 use std::alloc::{AllocError, Allocator};
 
 /// The length of the shortest string of three bytes or more, at most 8.
@@ -32,8 +34,24 @@ fn no_flags<A: Allocator + Copy>(alloc: A) -> Result<Vec<bool, A>, AllocError>
     vec![in alloc; false; KEYS]
 }
 
+/// Tables of the strings by all their bytes, if some chain by their first bytes has many of them.
+fn whole_of<A: Allocator + Copy>(
+    alloc: A,
+    strings: &[Vec<u8, A>],
+    counts: Vec<u32, A>,
+) -> Result<Option<WholeStrings<A>>, AllocError>
+    ensures { IfOk result (λ whole. KnowsWhole whole (map items_of strings.now)) }
+{
+    if !has_long_chain(counts.as_slice()) {
+        return Ok(None);
+    }
+    let whole = WholeStrings::new(alloc, strings, counts)?;
+    Ok(Some(whole))
+}
+
 impl<A: Allocator> StringSet<A> {
-    /// Prepares strings, in linear time. A refused request for memory is the only error.
+    /// Prepares strings, in linear time; where many begin alike, each length is compared with all others too. A refused
+    /// request for memory is the only error.
     pub fn new(alloc: A, strings: Vec<Vec<u8, A>, A>) -> Result<StringSet<A>, AllocError>
     where
         A: Copy,
@@ -44,12 +62,15 @@ impl<A: Allocator> StringSet<A> {
         let factor = factor_of(width);
         let mut flags = no_flags(alloc)?;
         let mut chains = Chains::new(alloc)?;
+        let mut counts = vec![in alloc; 0u32; CHAINS]?;
         for place in 0..strings.len() {
             let key = last_key_at(factor, &strings[place], 0);
             flags[key] = true;
+            counts[key / SHARE] = counts[key / SHARE].saturating_add(1);
             chains.push(key / SHARE)?;
         }
         let short = ShortStrings::new(alloc, strings.as_slice())?;
+        let whole = whole_of(alloc, strings.as_slice(), counts)?;
         Ok(StringSet {
             strings,
             short,
@@ -57,6 +78,7 @@ impl<A: Allocator> StringSet<A> {
             factor,
             flags,
             chains,
+            whole,
         })
     }
 }

@@ -5,7 +5,7 @@ ghost use Rattle.pg_strings.specs.Keys.{AreChains};
 use std::alloc::{AllocError, Allocator, Global};
 
 /// How many chains there are.
-const CHAINS: usize = 8_192;
+pub(crate) const CHAINS: usize = 8_192;
 
 /// Chains of strings that may have one key. A link is one more than the place of a string, or 0.
 #[derive(Drop)]

@@ -1,5 +1,5 @@
 //! Whether a string stands at a place.
-ghost use Rattle.std.specs.Prelude.{◌+◌, ◌≤◌, ◌↔◌, length, IsTrue};
+ghost use Rattle.std.specs.Prelude.{◌≡◌, ◌+◌, ◌≤◌, ◌↔◌, length, IsTrue};
 ghost use Rattle.memchr.specs.Find.{OccursAt};
 
 use crate::budget::Budget;
@@ -40,6 +40,13 @@ pub(crate) fn stands(string: &[u8], bytes: &[u8], place: usize) -> bool
         return false;
     }
     begins_at(string, bytes, place)
+}
+
+/// Whether a string is this text.
+pub(crate) fn is_text(string: &[u8], text: &[u8]) -> bool
+    ensures { IsTrue result ↔ (string.now ≡ text.now) }
+{
+    string == text
 }
 
 /// Whether a string stands at a place, at the expense of a budget.

@@ -52,6 +52,9 @@ impl<A: Allocator> StringSet<A> {
             return Look::Stands;
         }
         let key = last_key_at(self.factor, bytes, place);
+        if let Some(whole) = self.whole_for(key / SHARE) {
+            return self.look_whole(whole, bytes, place, budget);
+        }
         let mut link = self.chains.first[key / SHARE];
         while link > 0 {
             if budget.left == 0 {

@@ -42,8 +42,11 @@ impl<A: Allocator> StringSet<A> {
         requires { place ≤ length bytes.now }
         ensures { IsLongestAt (strings_of self.now) bytes.now place result }
     {
-        let mut longest = self.short_at(bytes, place);
         let key = last_key_at(self.factor, bytes, place);
+        if let Some(whole) = self.whole_for(key / SHARE) {
+            return self.longest_whole(whole, bytes, place);
+        }
+        let mut longest = self.short_at(bytes, place);
         let mut link = self.chains.first[key / SHARE];
         while link > 0 {
             longest = longer(longest, &self.strings[link - 1], bytes, place);
@@ -56,6 +59,9 @@ impl<A: Allocator> StringSet<A> {
     pub fn contains(&self, line: &[u8]) -> bool
         ensures { IsTrue result ↔ Contains (strings_of self.now) line.now }
     {
+        if let Some(whole) = &self.whole {
+            return self.has_whole(whole, line);
+        }
         match self.longest_at(line, 0) {
             Some(len) => len == line.len(),
             None => false,

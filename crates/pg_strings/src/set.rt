@@ -2,9 +2,11 @@
 ghost use Rattle.std.specs.Prelude.{◌≡◌, length, map};
 ghost use Rattle.pg_strings.specs.Keys.{AreChains, AreFlagged, AreLong, Weighs, home, items_of};
 ghost use Rattle.pg_strings.specs.Short.{KnowsShort};
+ghost use Rattle.pg_strings.specs.Whole.{KnowsWhole};
 
 use crate::chains::Chains;
 use crate::short::ShortStrings;
+use crate::whole::WholeStrings;
 use std::alloc::{Allocator, Global};
 
 /// Strings, none of them empty, prepared so that the first place is found at which one stands.
@@ -20,6 +22,9 @@ pub struct StringSet<A: Allocator = Global> {
     /// For each key whether it is a string's.
     pub(crate) flags: Vec<bool, A>,
     pub(crate) chains: Chains<A>,
+    /// All strings by all their bytes, if many of them begin alike.
+    pub(crate) whole: Option<WholeStrings<A>>,
+    ghost knows_whole: { KnowsWhole whole (map items_of strings.items) },
     ghost knows_short: { KnowsShort short (map items_of strings.items) },
     ghost weighs: { Weighs factor width },
     ghost long: { AreLong width (map items_of strings.items) },

@@ -3,7 +3,7 @@ use Rattle.std.proofs.Common.{subst, get_or, ◌∙◌, inl, inr, drop}
 use Rattle.std.proofs.lemmas.Bool.{cases_lt}
 use Rattle.std.proofs.lemmas.List.{get_or_default, length-map}
 use Rattle.memchr.specs.Find.{OccursAt}
-use Rattle.pg_strings.specs.Keys.{items_of, key}
+use Rattle.pg_strings.specs.Keys.{items_of, key, home}
 use Rattle.pg_strings.specs.Short.{IsLongestShort, SomeLongStands}
 use Rattle.pg_strings.proofs.WalkLemmas.{IsWalked, walk_first, walk_next, walk_ends, walk_weaker, link_falls}
 use Rattle.pg_strings.proofs.PlaceLemmas.{string_at}
@@ -18,7 +18,7 @@ loop-link-init g c =
     let h = c.last_key_at-key.result / 16 in
     let short = c.short_at-longest.result in
     let P : List ℕ → Type 0 = λ string. OccursAt c.args.bytes.now string c.args.place → length string ≤ short in
-    let walk = walk_first P set.factor (map items_of vecs) set.chains.first.items set.chains.next.items h
+    let walk = walk_first P (home set.factor) (map items_of vecs) set.chains.first.items set.chains.next.items h
     c.index-link.result.now (omega (arith, c.last_key_at-key.ensures.few)) set.linked c.index-link.ensures in
     record {
       within = omega (arith, walk.0, length-map vecs items_of);
@@ -32,7 +32,7 @@ loop-link-smaller g c =
     let set = c.args.self.now in
     let vecs = set.strings.items in
     let within = c.loop-link.invariant.within in
-    link_falls set.factor (map items_of vecs) set.chains.first.items set.chains.next.items c.loop-link.link
+    link_falls (home set.factor) (map items_of vecs) set.chains.first.items set.chains.next.items c.loop-link.link
     c.index-link-in-loop-link.result.now set.linked c.loop-link-test.true
     (omega (arith, within, length-map vecs items_of)) c.index-link-in-loop-link.ensures
 
@@ -54,9 +54,9 @@ loop-link-preserved g c =
     let longer = c.longer-longest.ensures in
     let kept = c.longer-longest.result in
     let P : List ℕ → Type 0 = λ s. OccursAt bytes s place → length s ≤ kept in
-    let walked = walk_weaker (λ s. OccursAt bytes s place → length s ≤ c.loop-link.longest) P set.factor strings
+    let walked = walk_weaker (λ s. OccursAt bytes s place → length s ≤ c.loop-link.longest) P (home set.factor) strings
     c.loop-link.link h (λ s short occurs. omega (arith, short occurs, longer.low)) c.loop-link.invariant.walked in
-    let walk = walk_next P set.factor strings set.chains.first.items set.chains.next.items c.loop-link.link h
+    let walk = walk_next P (home set.factor) strings set.chains.first.items set.chains.next.items c.loop-link.link h
     c.index-link-in-loop-link.result.now set.linked some (omega (arith, within, len)) walked
     (subst P (sym string) longer.own) c.index-link-in-loop-link.ensures in
     record {
@@ -80,7 +80,7 @@ returns-then-longest-gt0 g c =
     let P : List ℕ → Type 0 = λ s. OccursAt bytes s c.args.place → length s ≤ c.loop-link.longest in
     let test = c.loop-link-test.false in
     let end : c.loop-link.link ≡ 0 = omega (arith, test) in
-    let walked = subst (λ link. IsWalked P set.factor strings link h) end c.loop-link.invariant.walked in (
+    let walked = subst (λ link. IsWalked P (home set.factor) strings link h) end c.loop-link.invariant.walked in (
       c.loop-link.invariant.stands c.if-longest-gt0.true,
       λ k d less occurs. elim (cases_lt (length (get_or strings k d)) 3) [
         | inl before ↦ c.loop-link.invariant.short k d less occurs (omega (arith, before))
@@ -100,7 +100,7 @@ returns-else-longest-gt0 g c =
     let P : List ℕ → Type 0 = λ s. OccursAt bytes s c.args.place → length s ≤ c.loop-link.longest in
     let test = c.loop-link-test.false in
     let end : c.loop-link.link ≡ 0 = omega (arith, test) in
-    let walked = subst (λ link. IsWalked P set.factor strings link h) end c.loop-link.invariant.walked in
+    let walked = subst (λ link. IsWalked P (home set.factor) strings link h) end c.loop-link.invariant.walked in
     let test' = c.if-longest-gt0.false in
     let none : c.loop-link.longest ≡ 0 = omega (arith, test') in
     let longest : IsLongestShort strings bytes c.args.place c.loop-link.longest = record {

@@ -2,7 +2,7 @@ use Rattle.std.proofs.Common.{◌≡◌, ◌+◌, ◌-◌, ◌<◌, ℕ, List, l
 use Rattle.std.proofs.Common.{subst, get_or, []}
 use Rattle.std.proofs.lemmas.List.{length-map}
 use Rattle.memchr.specs.Find.{OccursAt}
-use Rattle.pg_strings.specs.Keys.{items_of}
+use Rattle.pg_strings.specs.Keys.{items_of, home}
 use Rattle.pg_strings.proofs.WalkLemmas.{IsWalked, walk_first, walk_next, walk_ends, link_falls}
 use Rattle.pg_strings.proofs.WalkLemmas.{spent_more, spent_all}
 use Rattle.pg_strings.proofs.PlaceLemmas.{stands, string_at}
@@ -16,7 +16,7 @@ loop-link-init g c =
     let strings = map items_of vecs in
     let h = c.last_key_at-key.result / 16 in
     let P : List ℕ → Type 0 = λ string. OccursAt c.args.bytes.now string c.args.place → ⊥ in
-    let walk = walk_first P set.factor strings set.chains.first.items set.chains.next.items h c.index-link.result.now
+    let walk = walk_first P (home set.factor) strings set.chains.first.items set.chains.next.items h c.index-link.result.now
     (omega (arith, c.last_key_at-key.ensures.few)) set.linked c.index-link.ensures in
     record {
       within = omega (arith, walk.0, length-map vecs items_of);
@@ -30,7 +30,7 @@ loop-link-smaller g c =
     let set = c.args.self.now in
     let vecs = set.strings.items in
     let within = c.loop-link.invariant.within in
-    link_falls set.factor (map items_of vecs) set.chains.first.items set.chains.next.items c.loop-link.link
+    link_falls (home set.factor) (map items_of vecs) set.chains.first.items set.chains.next.items c.loop-link.link
     c.index-link-in-loop-link.result.now set.linked c.loop-link-test.true
     (omega (arith, within, length-map vecs items_of)) c.index-link-in-loop-link.ensures
 
@@ -52,7 +52,7 @@ loop-link-preserved g c =
     (λ t. OccursAt c.args.bytes.now t c.args.place)
     (string ∙ sym c.deref.ensures.value) occurs)) ∙ c.if-stands_within.false in
     cc in
-    let walk = walk_next P set.factor strings set.chains.first.items set.chains.next.items c.loop-link.link h
+    let walk = walk_next P (home set.factor) strings set.chains.first.items set.chains.next.items c.loop-link.link h
     c.index-link-in-loop-link.result.now set.linked some (omega (arith, within, len)) c.loop-link.invariant.walked last
     c.index-link-in-loop-link.ensures in
     let less' = c.loop-link.invariant.less in
@@ -107,7 +107,7 @@ returns-clause-look g c =
     let P : List ℕ → Type 0 = λ string. OccursAt c.args.bytes.now string c.args.place → ⊥ in
     let test = c.loop-link-test.false in
     let end : c.loop-link.link ≡ 0 = omega (arith, test) in
-    let walked = subst (λ link. IsWalked P set.factor strings link h) end c.loop-link.invariant.walked in
+    let walked = subst (λ link. IsWalked P (home set.factor) strings link h) end c.loop-link.invariant.walked in
     let test' = c.if-short_at-gt0.false in
     none_stands set.width strings c.args.bytes.now c.args.place c.short_at.result set.long c.short_at.ensures
     (omega (arith, test'))

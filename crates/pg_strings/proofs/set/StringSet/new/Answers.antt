@@ -1,6 +1,7 @@
 use Rattle.std.proofs.Common.{◌≡◌, ◌<◌, [], length, map, arith, sym, ap, ◌∙◌, subst, get_or, take}
 use Rattle.pg_strings.specs.Keys.{items_of, key, home, AreChains, AreFlagged, AreLong}
 use Rattle.pg_strings.specs.Short.{KnowsShort}
+use Rattle.pg_strings.specs.Whole.{KnowsWhole}
 use Rattle.std.proofs.lemmas.List.{length-map}
 use Rattle.std.proofs.lemmas.Grind.{common_steps}
 use Rattle.pg_strings.proofs.PlaceLemmas.{string_at, flagged_more, homes_more, take_whole}
@@ -42,6 +43,8 @@ invariant_of-result g c =
       length-map vecs items_of,
     )) in
     record {
+      knows_whole = subst (λ xs. KnowsWhole c.in_ok-whole.whole (map items_of xs)) c.as_slice-3.ensures.value
+          c.in_ok-whole.ensures;
       knows_short = subst (λ xs. KnowsShort c.in_ok-short.short (map items_of xs)) c.as_slice-2.ensures.value
           c.in_ok-short.ensures;
       weighs = c.factor_of-factor.ensures;

@@ -1,0 +1,170 @@
+-- Strings that are known by all their bytes: for `number_of`, `WholeStrings` and the searches in find_whole.rt.
+use Rattle.std.proofs.Common.{◌≡◌, ℕ, ◌+◌, ◌-◌, ◌<◌, ◌≤◌, ◌↔◌, ◌++◌, ◌∷◌, ◌||◌, IsTrue, Bool, true, false, List, [], length}
+use Rattle.std.proofs.Common.{map, drop, take, get_or, refl, sym, ap, ◌∙◌, arith, subst, inl, inr, zero-add}
+use Rattle.std.specs.Prelude.{nat_eq, Contains}
+use Rattle.std.specs.List.{All, list_any, sum_by}
+use Rattle.std.proofs.lemmas.Bool.{eqb-true, eq-eqb, cases_lt}
+use Rattle.std.proofs.lemmas.List.{get_or_default, map-append}
+use Rattle.std.proofs.lemmas.List.Elements.{All-push, All-weaker}
+use Rattle.std.proofs.lemmas.List.Folds.{Any-from_list_any, list_any-append}
+use Rattle.std.proofs.lemmas.List.Sums.{sum_by-append}
+use Rattle.std.proofs.Math.Bool.{or-true}
+use Rattle.memchr.specs.Find.{OccursAt}
+use Rattle.memchr.proofs.lemmas.MatchLemmas.{OccursAt-part, OccursAt-from_part}
+use Rattle.pg_strings.specs.Keys.{AreChains}
+use Rattle.pg_strings.specs.Sets.{SomeStands, StandsSo, work}
+use Rattle.pg_strings.specs.Whole.{AreWhole, whole_home}
+use Rattle.pg_strings.proofs.WalkLemmas.{IsWalked}
+
+-- a string that stands at a place is the text of its length there
+pub text_there : (bytes string text : List ℕ) (place len : ℕ) → text ≡ take len (drop place bytes)
+    → OccursAt bytes string place → length string ≡ len → string ≡ text
+text_there bytes string text place len is occurs same =
+    sym (OccursAt-part bytes string place occurs) ∙ (ap (λ n. take n (drop place bytes)) same ∙ sym is)
+
+-- and the text there stands at the place
+pub stands_there : (bytes string text : List ℕ) (place len : ℕ) → text ≡ take len (drop place bytes)
+    → place + len ≤ length bytes → length string ≡ len → string ≡ text → OccursAt bytes string place
+stands_there bytes string text place len is fits same e =
+    OccursAt-from_part bytes string place (omega (arith, fits, same))
+    (ap (λ n. take n (drop place bytes)) same ∙ (sym is ∙ sym e))
+
+-- among other lengths are those before and one more, and they cost no more than both
+abbrev pub LengthsOf : (before after : List ℕ) → ℕ → Type 0
+LengthsOf before after more =
+    ((n : ℕ) → list_any (λ len. nat_eq len n) before ≡ true → list_any (λ len. nat_eq len n) after ≡ true)
+    × (list_any (λ len. nat_eq len more) after ≡ true)
+    × (sum_by (λ len. 1 + len) after ≤ sum_by (λ len. 1 + len) before + (1 + more))
+
+-- the tables of one more string
+pub whole_more : (lengths lengths' first next first' next' : List ℕ) (strings : List (List ℕ)) (string : List ℕ) (h : ℕ)
+    → AreWhole lengths first next strings → LengthsOf lengths lengths' (length string) → h ≡ whole_home string
+    → AreChains first' next' (map whole_home strings ++ (h ∷ []))
+    → AreWhole lengths' first' next' (strings ++ (string ∷ []))
+whole_more lengths lengths' first next first' next' strings string h before more is chains = record {
+  all = All-push (λ s. list_any (λ len. nat_eq len (length s)) lengths' ≡ true) strings string
+      (All-weaker (λ s. list_any (λ len. nat_eq len (length s)) lengths ≡ true)
+      (λ s. list_any (λ len. nat_eq len (length s)) lengths' ≡ true) (λ s yes. more.0 (length s) yes) strings before.all)
+      more.1;
+  worth =
+      let all = sum_by-append (λ s. 1 + length s) strings (string ∷ []) in
+      let worth = before.worth in
+      omega (arith, all, worth, more.2);
+  linked = subst (λ homes. AreChains first' next' homes)
+      (ap (λ v. map whole_home strings ++ (v ∷ [])) is ∙ sym (map-append whole_home strings (string ∷ []))) chains;
+}
+
+-- a length that is new is added
+pub one_more : (lengths : List ℕ) (n : ℕ) → LengthsOf lengths (lengths ++ (n ∷ [])) n
+one_more lengths n =
+    let all = sum_by-append (λ len. 1 + len) lengths (n ∷ []) in (
+      λ m yes. list_any-append (λ len. nat_eq len m) lengths (n ∷ [])
+          ∙ ap (λ b. b || list_any (λ len. nat_eq len m) (n ∷ [])) yes,
+      list_any-append (λ len. nat_eq len n) lengths (n ∷ [])
+          ∙ (ap (λ b. list_any (λ len. nat_eq len n) lengths || (b || false)) (eq-eqb n n refl)
+          ∙ or-true (list_any (λ len. nat_eq len n) lengths)),
+      omega (arith, all),
+    )
+
+-- P holds of no string of the chain of a text, so the text is none
+pub none_is : (strings : List (List ℕ)) (text : List ℕ) (h : ℕ) → h ≡ whole_home text
+    → IsWalked (λ string. string ≡ text → ⊥) whole_home strings 0 h → Contains strings text → ⊥
+none_is strings text h is walked among =
+    let at : get_or strings among.0 [] ≡ text =
+    get_or_default strings among.0 [] text among.1 ∙ among.2 in
+    walked.seen among.0 among.1 (omega arith) (ap whole_home at ∙ sym is) at
+
+-- a string of the list that is the text
+pub one_is : (strings : List (List ℕ)) (text : List ℕ) (i : ℕ) → i < length strings → get_or strings i [] ≡ text
+    → Contains strings text
+one_is strings text i less at = (i, less, get_or_default strings i text [] less ∙ at)
+
+-- a string of its length stands at a place, if the text there is a string
+pub text_stands : (strings : List (List ℕ)) (bytes text : List ℕ) (place len : ℕ) (b : Bool)
+    → text ≡ take len (drop place bytes) → length text ≡ len → place + len ≤ length bytes
+    → (IsTrue b ↔ Contains strings text)
+    → IsTrue b ↔ StandsSo strings bytes place len
+text_stands strings bytes text place len b is size fits among = (
+  λ yes.
+      let one = among.0 yes in
+      (one.0, text, one.1, one.2, (stands_there bytes text text place len is fits size refl, size)),
+  λ one.
+      let same = text_there bytes one.1 text place len is one.4.0 one.4.1 in
+      among.1 (one.0, one.2, get_or_default strings one.0 text one.1 one.2 ∙ (one.3 ∙ same)),
+)
+
+-- where there is no room for this length, no string of it stands
+pub no_room : (strings : List (List ℕ)) (bytes : List ℕ) (place len : ℕ) → length bytes - place < len
+    → place ≤ length bytes → StandsSo strings bytes place len → ⊥
+no_room strings bytes place len less within one =
+    let fits = one.4.0.fits in
+    omega (arith, less, within, fits, one.4.1)
+
+-- No string of these lengths stands at a place.
+abbrev pub NoneOf : List (List ℕ) → List ℕ → ℕ → List ℕ → ℕ → Type 0
+NoneOf strings bytes place lengths count = (i : ℕ) → i < count
+    → StandsSo strings bytes place (get_or lengths i 0) → ⊥
+
+-- the place of a string's length
+pub length_at : (lengths first next : List ℕ) (strings : List (List ℕ)) → AreWhole lengths first next strings
+    → (k : ℕ) (string : List ℕ) → k < length strings
+    → (i : ℕ) × (i < length lengths) × (get_or lengths i 0 ≡ length (get_or strings k string))
+length_at lengths first next strings whole k string less =
+    let one = Any-from_list_any (λ len. nat_eq len (length (get_or strings k string))) lengths
+    (whole.all k string less) in (
+      one.0,
+      one.2,
+      get_or_default lengths one.0 0 one.1 one.2 ∙ (one.3 ∙ eqb-true one.1 (length (get_or strings k string)) one.4),
+    )
+
+-- where none of any length stands, none stands
+pub none_at_all : (lengths first next : List ℕ) (strings : List (List ℕ)) (bytes : List ℕ) (place : ℕ)
+    → AreWhole lengths first next strings → NoneOf strings bytes place lengths (length lengths)
+    → SomeStands strings bytes place → ⊥
+none_at_all lengths first next strings bytes place whole none some =
+    let at = length_at lengths first next strings whole some.0 some.1 some.2 in
+    none at.0 at.1 (some.0, some.1, some.2, some.3, (some.4, sym (at.2 ∙ ap length some.3)))
+
+-- what was found of the lengths before one
+pub record IsLongestOf (strings : List (List ℕ)) (bytes : List ℕ) (place : ℕ) (lengths : List ℕ) (count longest : ℕ)
+    : Type 0 where
+  pub stands : 0 < longest → StandsSo strings bytes place longest
+  pub most : (i : ℕ) → i < count → StandsSo strings bytes place (get_or lengths i 0) → get_or lengths i 0 ≤ longest
+
+-- one more length
+pub longest_more : (strings : List (List ℕ)) (bytes : List ℕ) (place : ℕ) (lengths : List ℕ) (count longest longer : ℕ)
+    → IsLongestOf strings bytes place lengths count longest → longest ≤ longer
+    → (StandsSo strings bytes place (get_or lengths count 0) → get_or lengths count 0 ≤ longer)
+    → (longest < longer → StandsSo strings bytes place longer)
+    → IsLongestOf strings bytes place lengths (count + 1) longer
+longest_more strings bytes place lengths count longest longer before low own stands = record {
+  stands = λ some. elim (cases_lt longest longer) [
+    | inl more ↦ stands more
+    | inr same ↦
+        let e : longest ≡ longer = omega (arith, low, same) in
+        subst (StandsSo strings bytes place) e (before.stands (omega (arith, e, some)))
+  ];
+  most = λ i less there. elim (cases_lt i count) [
+    | inl earlier ↦
+        let most = before.most i earlier there in
+        omega (arith, most, low)
+    | inr last ↦
+        let e : i ≡ count = omega (arith, less, last) in
+        subst (λ n. StandsSo strings bytes place (get_or lengths n 0) → get_or lengths n 0 ≤ longer) (sym e) own there
+  ];
+}
+
+-- what stands is no longer than the longest of all lengths
+pub none_longer : (lengths first next : List ℕ) (strings : List (List ℕ)) (bytes : List ℕ) (place longest : ℕ)
+    → AreWhole lengths first next strings → IsLongestOf strings bytes place lengths (length lengths) longest
+    → All (λ string. OccursAt bytes string place → length string ≤ longest) strings
+none_longer lengths first next strings bytes place longest whole found k d less occurs =
+    let at = length_at lengths first next strings whole k d less in
+    let high = found.most at.0 at.1 (
+      k,
+      get_or strings k d,
+      less,
+      get_or_default strings k (get_or strings k d) d less,
+      (occurs, sym at.2),
+    ) in
+    omega (arith, high, at.2)

@@ -1,0 +1,57 @@
+use Rattle.std.proofs.Common.{◌≡◌, ◌<◌, ◌≤◌, ◌+◌, ◌/◌, ℕ, length, map, take, true, false, arith, subst, sym, ap, get_or}
+use Rattle.std.proofs.Common.{inl, inr, ◌∙◌}
+use Rattle.std.proofs.lemmas.Bool.{cases_lt}
+use Rattle.std.proofs.lemmas.List.{get_or_default}
+use Rattle.std.proofs.lemmas.List.Sums.{sum_by_more, sum_by_more_le}
+use Rattle.pg_strings.specs.Keys.{items_of}
+use Rattle.pg_strings.specs.Sets.{StandsSo}
+use Rattle.pg_strings.proofs.WholeLemmas.{NoneOf, none_at_all}
+use Rattle.pg_strings.proofs.set.StringSet.look_whole.Goals as goal
+
+pub loop-at-preserved : goal.loop-at-preserved
+loop-at-preserved g c =
+    let strings = map items_of c.args.self.now.strings.items in
+    let lengths = c.args.whole.now.lengths.items in
+    let at = c.loop-at.at in
+    let len = c.index-len.result.now in
+    let less : at < length lengths = omega (arith, c.loop-at-test.true, c.len-at-end.ensures) in
+    let is = c.index-len.ensures ∙ get_or_default lengths at len 0 less in
+    let before = c.loop-at.invariant.less in
+    let cost = c.loop-at.invariant.cost in
+    let more = sum_by_more (λ n. 1 + n) lengths at 0 less in
+    record {
+      none = λ i low there. elim (cases_lt i at) [
+        | inl earlier ↦ c.loop-at.invariant.none i earlier there
+        | inr last ↦
+            let e : i ≡ at = omega (arith, low, last) in
+            let here = subst (StandsSo strings c.args.bytes.now c.args.place)
+            (ap (λ n. get_or lengths n 0) e ∙ sym is) there in
+            let yes : true ≡ false = sym (c.stands_whole.ensures.1 here) ∙ c.if-stands_whole.false in
+            absurd (cc)
+      ];
+      less = omega (arith, c.spend.ensures.less, before);
+      cost = omega (arith, c.spend.ensures.cost, cost, more, is);
+    }
+
+pub returns-clause-look : goal.returns-clause-look
+returns-clause-look g c =
+    let strings = map items_of c.args.self.now.strings.items in
+    let whole = c.args.whole.now in
+    let lengths = whole.lengths.items in
+    let last = c.loop-at.auto.at-end in
+    none_at_all lengths whole.chains.first.items whole.chains.next.items strings c.args.bytes.now c.args.place
+    c.requires.whole
+    (subst (NoneOf strings c.args.bytes.now c.args.place lengths)
+    (omega (arith, last, c.loop-at-test.false, c.len-at-end.ensures)) c.loop-at.invariant.none)
+
+pub returns-then-stands_whole-clause-cost : goal.returns-then-stands_whole-clause-cost
+returns-then-stands_whole-clause-cost g c =
+    let lengths = c.args.whole.now.lengths.items in
+    let at = c.loop-at.at in
+    let len = c.index-len.result.now in
+    let less : at < length lengths = omega (arith, c.loop-at-test.true, c.len-at-end.ensures) in
+    let is = c.index-len.ensures ∙ get_or_default lengths at len 0 less in
+    let cost = c.loop-at.invariant.cost in
+    let more = sum_by_more_le (λ n. 1 + n) lengths at 0 less in
+    let worth = c.requires.whole.worth in
+    omega (arith, c.spend.ensures.cost, cost, more, is, worth)

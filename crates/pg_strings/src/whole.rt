@@ -1,0 +1,98 @@
+//! Strings that are known by all their bytes, for lists of which many begin alike.
+ghost use Rattle.std.specs.Prelude.{◌≡◌, ◌<◌, ◌++◌, ◌∷◌, [], List, ℕ, length, map, IfOk, IfSome, OnOk};
+ghost use Rattle.pg_strings.specs.Keys.{items_of};
+ghost use Rattle.pg_strings.specs.Whole.{AreWhole, number_behind, whole_home};
+
+use crate::chains::Chains;
+use std::alloc::{AllocError, Allocator, Global};
+
+/// What numbers of bytes are multiplied by: 2^64 over the golden ratio.
+const MIX: u64 = 0x9E37_79B9_7F4A_7C15;
+
+/// A chain of more strings than these takes longer than to look for strings of each length by all their bytes.
+const LONG_CHAIN: u32 = 32;
+
+/// A number of all bytes of a text.
+fn number_of(text: &[u8]) -> u64
+    ensures { result ≡ number_behind 0 text.now }
+{
+    let mut number = 0u64;
+    for byte in text {
+        number = number.wrapping_mul(MIX).wrapping_add(*byte as u64);
+    }
+    number
+}
+
+/// The chain of a text, by all its bytes.
+pub(crate) fn chain_of(text: &[u8]) -> usize
+    ensures few { result < 8192 }
+    ensures value { result ≡ whole_home text.now }
+{
+    (number_of(text).wrapping_mul(MIX) / 0x0008_0000_0000_0000) as usize
+}
+
+/// Tables of strings by all their bytes. Of strings that begin alike those of one length are told apart at once, where
+/// a key of the first bytes is the same for all.
+#[derive(Drop)]
+pub(crate) struct WholeStrings<A: Allocator = Global> {
+    /// The lengths of the strings, each once.
+    pub lengths: Vec<usize, A>,
+    /// Chains of strings that may have the same bytes.
+    pub chains: Chains<A>,
+    /// For each chain by first bytes how many strings it has.
+    pub counts: Vec<u32, A>,
+}
+
+/// Whether some chain has so many strings that they are to be known by all their bytes.
+pub(crate) fn has_long_chain(counts: &[u32]) -> bool {
+    counts.iter().any(|count| *count > LONG_CHAIN)
+}
+
+impl<A: Allocator> WholeStrings<A> {
+    /// Adds the next string.
+    fn push(&mut self, string: &[u8]) -> Result<(), AllocError>
+        requires { length self.old.chains.first.items ≡ 8192 }
+        ensures { OnOk result ((strings : List (List ℕ))
+            → AreWhole self.old.lengths.items self.old.chains.first.items self.old.chains.next.items strings
+            → AreWhole self.new.lengths.items self.new.chains.first.items self.new.chains.next.items
+            (strings ++ string.now ∷ [])) }
+    {
+        let len = string.len();
+        if !self.lengths.contains(&len) {
+            self.lengths.push(len)?;
+        }
+        self.chains.push(chain_of(string))?;
+        Ok(())
+    }
+
+    /// The tables of some strings, of which the chains by first bytes have so many each. Beside the strings' bytes it
+    /// takes the time of comparing each string's length with all other lengths.
+    pub fn new(
+        alloc: A,
+        strings: &[Vec<u8, A>],
+        counts: Vec<u32, A>,
+    ) -> Result<WholeStrings<A>, AllocError>
+    where
+        A: Copy,
+        ensures { IfOk result (λ whole. AreWhole whole.lengths.items whole.chains.first.items
+            whole.chains.next.items (map items_of strings.now)) }
+    {
+        let mut whole = WholeStrings {
+            lengths: Vec::new(alloc),
+            chains: Chains::new(alloc)?,
+            counts,
+        };
+        for place in 0..strings.len() {
+            whole.push(&strings[place])?;
+        }
+        Ok(whole)
+    }
+
+    /// Whether a chain by first bytes has so many strings that these are looked for by all their bytes.
+    pub fn is_long(&self, chain: usize) -> bool {
+        match self.counts.get(chain) {
+            Some(count) => *count > LONG_CHAIN,
+            None => false,
+        }
+    }
+}
