@@ -32,7 +32,7 @@ complete -c pargrep -l group-separator -x -d 'print this text between groups of 
 complete -c pargrep -l no-group-separator -d 'print nothing between groups of lines'
 complete -c pargrep -l color -f -a 'always never auto' -d 'color matches, names and numbers'
 complete -c pargrep -l colour -f -a 'always never auto' -d 'color matches, names and numbers'
-complete -c pargrep -l line-buffered -d 'print lines as soon as they are found'
+complete -c pargrep -l line-buffered -d 'print lines as soon as their block is searched'
 complete -c pargrep -s r -l recursive -d 'search the files below each directory'
 complete -c pargrep -s R -l dereference-recursive -d 'search them, and follow links below them'
 complete -c pargrep -l include -x -d 'search only files whose names match'

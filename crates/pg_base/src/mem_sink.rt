@@ -64,8 +64,8 @@ impl<A: Allocator> MemSink<A> {
         })
     }
 
-    /// From now on it takes at most `write_limit` bytes in one write: with 1 a byte, with 0 none, so
-    /// that it answers `Ok(0)` until it is full.
+    /// From now on it takes at most `write_limit` bytes in one write: with 0 none, so that each write
+    /// of some bytes answers `Ok(0)` until it is full.
     pub fn set_write_limit(&mut self, write_limit: usize)
         ensures { self.new ≡ record self.old { write_limit = write_limit } }
     {

@@ -40,7 +40,7 @@ impl<A: Allocator> Model for Board<A> {
 /// Which numbers the seats of a closed board have drawn.
 #[derive(Clone, Copy, Debug, PartialEq, Eq)]
 pub struct Drawn {
-    /// They are those below it.
+    /// All numbers below this one, each once.
     pub upto: u32,
 }
 

@@ -2,8 +2,8 @@
 use Rattle.std.specs.Prelude.{ℕ, ◌==◌, if◌then◌else◌, List, [], ◌∷◌}
 use Rattle.std.specs.List.{onto_first}
 
--- the lines that the terminator `end` cuts the bytes into: it ends the first of them, or the byte before it belongs to
--- the first
+-- The lines that the terminator `end` cuts the bytes into. A terminator ends an empty first line; any other byte goes
+-- in front of the first line of the rest. The last line may lack its terminator.
 abbrev pub lines : ℕ → List ℕ → List (List ℕ)
 lines end [] = []
 lines end (b ∷ bytes) = if b == end then [] ∷ lines end bytes else onto_first b (lines end bytes)

@@ -19,8 +19,8 @@ use std::thread::Threads;
 use std::time::Clock;
 
 /// Does what the words of a call ask for, as [`read_words`] has it: a search, as [`answer`] has it, or a text about the
-/// program. Whether rows are colored on a terminal alone is settled by the call. The answer is the status. Nothing was
-/// asked of `files` yet.
+/// program. The call says whether standard output is a terminal, which decides --color=auto. The answer is the status.
+/// Nothing was asked of `files` yet.
 ///
 /// # Errors
 ///
@@ -92,9 +92,9 @@ fn show<W: Sink, E: Sink>(alloc: Global, text: &str, out: &mut W, err: &mut E) -
     Ok(0)
 }
 
-/// Runs the command over the words of a call, or tells why they can't be had. Nothing was asked of `files` yet. The
-/// answer is the exit status of the program: that of the command, or 2 where a fault was told, where there are no
-/// words, or where what standard output held back can't be sent on, which is part of success.
+/// Runs the command over the words of a call, or tells why the words couldn't be read. Nothing was asked of `files`
+/// yet. The answer is the exit status of the program: that of the command, or 2 where a fault was told, where there are
+/// no words, or where what standard output held back can't be sent on, which is part of success.
 pub fn run<
     't,
     R: Threads + Wait + Clock + Sync,

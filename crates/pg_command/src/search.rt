@@ -140,7 +140,7 @@ fn list_files<'t, R: Threads, T: Prefetch<Helper: Send + Sync> + Send + Sync, S:
     let directory = is_directory(tree, request.files.as_slice())?;
     let operands = operands_of(alloc, request.files.as_slice())?;
     let scope = read_scope(alloc, request, globs)?;
-    prefetch(rt, alloc, request, globs, tree)?;
+    prefetch(rt, alloc, request, globs, tree);
     let spares = spares_output(request.format.mode);
     let name = String::from_str(alloc, input_name(request))?;
     files.list(alloc, tree, operands.as_slice(), scope, spares, name)?;
@@ -159,20 +159,23 @@ fn helpers_for<R: Threads>(rt: &R, request: &Request<'_>) -> u32 {
     others.min(request.workers)
 }
 
-/// Has other threads look ahead in the trees that a request asks for. Those that can't be made are done without. A
-/// refused request for the memory of what they are told to look for is the only error.
+/// Has other threads look ahead in the trees that a request asks for. Those that can't be made are done without, and so
+/// are all where memory for what they are to look for is refused.
 fn prefetch<R: Threads, T: Prefetch<Helper: Send + Sync> + Send + Sync>(
     rt: &R,
     alloc: Global,
     request: &Request<'_>,
     globs: &[Vec<u8>],
     tree: &T,
-) -> Result<(), AllocError> {
+) {
     let helpers = helpers_for(rt, request);
     if helpers == 0 || !has_room_for(alloc, helpers) {
-        return Ok(());
+        return;
     }
-    tree.expect(read_scope(alloc, request, globs)?);
+    let Ok(scope) = read_scope(alloc, request, globs) else {
+        return;
+    };
+    tree.expect(scope);
     for _ in 0..helpers {
         let Some(helper) = tree.helper() else {
             break;
@@ -181,7 +184,6 @@ fn prefetch<R: Threads, T: Prefetch<Helper: Send + Sync> + Send + Sync>(
             break;
         }
     }
-    Ok(())
 }
 
 /// What standard input is called.

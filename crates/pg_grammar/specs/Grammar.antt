@@ -62,9 +62,9 @@ pub data Mark (syntax : Syntax) : List ℕ → ℕ → Option ℕ → Type 0 whe
       → Mark syntax (brace syntax ++ (t ++ unbrace syntax)) m n
 
 mutual
-  -- An ordinary byte, an escaped one, `.` (XBD 9.3.4, 9.4.4), a bracket, or a group (XBD 9.3.6, 9.4.6) within at most
-  -- 99 others, where `before` and `after` are the rest of its body. A group is what stands in it. The `$` of an
-  -- extended expression is one too (XBD 9.4.9).
+  -- An ordinary byte, an escaped one, `.` (XBD 9.3.4, 9.4.4, which except NUL: here every file is text, and `.` is any
+  -- byte), a bracket, or a group (XBD 9.3.6, 9.4.6) within at most 99 others, where `before` and `after` are the rest
+  -- of its body. A group is what stands in it. The `$` of an extended expression is one too (XBD 9.4.9).
   pub data Atom (syntax : Syntax) (fold : Bool) : (before text after : List ℕ) → Pattern → ℕ → Type 0 where
     byte : {before after : List ℕ} {b d : ℕ} → IsOrdinary syntax d before b after
         → Atom syntax fold before (b ∷ []) after (Set (folded fold (one b))) d
@@ -77,7 +77,8 @@ mutual
         → Atom syntax fold before (opening syntax ++ (text ++ closing syntax)) after p d
     dollar : {before after : List ℕ} {d : ℕ} → syntax ≡ Extended → Atom syntax fold before (36 ∷ []) after End d
 
-  -- an atom and its marks; each mark repeats all that stands to its left in the item
+  -- An atom and its marks. Several in a row are undefined in the standard (XBD 9.3.6, 9.4.6); here each repeats all
+  -- that stands to its left in the item.
   pub data Item (syntax : Syntax) (fold : Bool) : (before text after : List ℕ) → Pattern → ℕ → Type 0 where
     atom : {before text after : List ℕ} {p : Pattern} {d : ℕ} → Atom syntax fold before text after p d
         → Item syntax fold before text after p d

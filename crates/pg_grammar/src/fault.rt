@@ -8,7 +8,8 @@ use std::error::Error;
 use std::fmt;
 
 /// The kinds of faults. Offsets count bytes from 0. Of several faults the one that stands first is
-/// answered, and of two that stand at one offset, a `BadInterval` before a `NothingToRepeat`.
+/// answered. Of two that stand at one offset a `BadInterval` comes before a `NothingToRepeat`, a
+/// `BadClass` or `BadCollating` before a `BadRange`, and an `UnmatchedGroup` before an `EmptyOperand`.
 #[derive(Clone, Copy, Debug, PartialEq, Eq)]
 pub enum FaultKind {
     /// A backslash is the last byte of the text. The fault stands at it.

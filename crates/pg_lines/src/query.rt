@@ -25,7 +25,7 @@ use thiserror::Error;
 /// Why a text can't be compiled.
 #[derive(Clone, Copy, Debug, PartialEq, Eq, Error)]
 pub enum QueryFault {
-    /// A pattern is no expression.
+    /// A pattern isn't a valid expression of its kind.
     #[error("{0}")]
     Syntax(ListFault),
     /// The patterns ask for more than 65,536 states.

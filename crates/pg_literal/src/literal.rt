@@ -30,20 +30,20 @@ const MOST_OF_ONE: usize = 16;
 /// Trees and alternatives give no more texts together, unless there are more of them.
 const MOST: usize = 4_096;
 
-/// A text that each line with a hit holds, unless it holds another one that was found with it.
+/// One of the texts that were found for some trees: each line with a hit holds at least one of them.
 #[derive(Drop)]
 pub struct Literal<A: Allocator = Global> {
     /// The bytes, as they stand in the line; where case is folded, as they stand in the line in lower case.
     pub text: Vec<u8, A>,
     /// Each line that holds the text has a hit.
     pub is_enough: bool,
-    /// What is matched for the sake of this text begins with it, and isn't empty.
+    /// Each match for which this text stands begins with it, and isn't empty.
     pub is_head: bool,
 }
 
 impl<A: Allocator + Copy> Literal<A> {
-    /// Texts of which each line holds one in which some tree matches a span within the bounds. Where no such texts were
-    /// found there is none, which tells nothing.
+    /// Texts of which each line holds at least one in which some tree matches a span within the bounds. An empty list
+    /// says nothing: no such texts were found.
     ///
     /// With `fold` the case of letters is folded, as it was for the trees. Each tree gives one text, and each
     /// alternative of a tree that is an alternation. Where those are more than 8, and not all are enough, longer ones

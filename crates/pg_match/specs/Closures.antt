@@ -59,7 +59,7 @@ pub record Reached (t : List State) (l : List ℕ) (i : ℕ) (old new : Members)
 abbrev pub HasPaths : List State → List ℕ → ℕ → Members → Members → ℕ → Type 0
 HasPaths t l i old new x = (q : ℕ) → mark old q ≡ 0 → 0 < mark new q → (n : ℕ) × Path t l i n x q
 
--- the states that those with a start of mark most `limit` lead to by the byte at i
+-- the states that the byte at i leads to from those whose mark is at most `limit`
 pub record Stepped (t : List State) (l : List ℕ) (i : ℕ) (now next : Members) (limit : ℕ) : Type 0 where
   pub good : IsGood next
   pub size : length next.marks ≡ length now.marks

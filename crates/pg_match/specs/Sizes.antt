@@ -17,6 +17,6 @@ size_of (Cat p q) = size_of p + size_of q
 size_of (Alt p q) = size_of p + size_of q + 1
 size_of (Rep p least most) = repeated_size (size_of p) least most
 
--- the patterns, one state less than them to choose among them, and one where a match ends
+-- the states of all patterns, one for each but the first to choose among them, and one where a match ends
 abbrev pub list_size : List Pattern → ℕ
 list_size patterns = sum_by size_of patterns + (length patterns - 1) + 1

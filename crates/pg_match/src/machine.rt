@@ -110,7 +110,7 @@ impl<A: Allocator> Machine<A> {
     /// # Errors
     ///
     /// `TooManyStates` comes exactly where the trees ask for more than 65,536 states, and before
-    /// anything is built.
+    /// anything is built; `OutOfMemory` where a request for memory was refused.
     pub fn build(alloc: A, trees: &[Tree<A>], bounds: Bounds) -> Result<Machine<A>, BuildFault>
     where
         A: Copy,
@@ -127,7 +127,8 @@ impl<A: Allocator> Machine<A> {
         }
     }
 
-    /// Whether some span of the line is matched, as the machine's bounds allow.
+    /// Whether some span of the line is matched, as the machine's bounds allow. The scratch has to fit
+    /// the machine ([`Scratch::fits`]). The line has no terminator and at most 2^30 bytes.
     pub fn selects(&self, scratch: &mut Scratch<A>, line: &[u8]) -> bool
         requires fits { Fits scratch.old self.now }
         requires short { length line.now ≤ 2 ^ 30 }
@@ -144,8 +145,9 @@ impl<A: Allocator> Machine<A> {
     }
 
     /// The matched part that -o shows next: of the spans from `from` on that are matched and not
-    /// empty the one that starts first, and of these the longest. Its offsets count bytes from the
-    /// line's start.
+    /// empty the one that starts first, and of these the longest; `None` if there is none. Its
+    /// offsets count bytes from the line's start, and the second is that behind its last byte. `from`
+    /// is at most the line's length; otherwise as for [`Machine::selects`].
     pub fn next_piece(
         &self,
         scratch: &mut Scratch<A>,
@@ -197,8 +199,12 @@ fn table<A: Allocator + Copy>(alloc: A, states: usize, is_wanted: bool) -> Optio
 }
 
 impl<A: Allocator> Scratch<A> {
-    /// Room for searches with a machine, of which few ask for matched parts. Where only the memory for what they
-    /// remember is refused, they are slower.
+    /// Room for searches with a machine, of which few ask for matched parts.
+    ///
+    /// # Errors
+    ///
+    /// `AllocError` where memory for the sets of states was refused. Where only that for the table of remembered sets
+    /// is, searches are slower and answer the same.
     pub fn new(alloc: A, machine: &Machine<A>) -> Result<Scratch<A>, AllocError>
     where
         A: Copy,
@@ -211,6 +217,10 @@ impl<A: Allocator> Scratch<A> {
 
     /// The same where matched parts are asked for, line after line: what the runs that begin at one place lead to is
     /// remembered too. That takes more memory, and searches answer the same.
+    ///
+    /// # Errors
+    ///
+    /// As for [`Scratch::new`].
     pub fn with_parts(alloc: A, machine: &Machine<A>) -> Result<Scratch<A>, AllocError>
     where
         A: Copy,

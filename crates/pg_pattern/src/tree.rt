@@ -15,9 +15,9 @@ pub enum Tree<A: Allocator = Global> {
     Empty,
     /// One byte of the set.
     Set(ByteSet),
-    /// The place in front of a line.
+    /// The start of the line.
     Begin,
-    /// The place behind a line.
+    /// The end of the line.
     End,
     /// The first, followed by the second.
     Cat(Box<Tree<A>, A>, Box<Tree<A>, A>),

@@ -32,7 +32,7 @@ abbrev pub asked_on : (terminal : Bool) → Asked → Asked
 asked_on terminal asked =
     record asked { format = record asked.format { colored = is_colored asked.coloring terminal } }
 
--- and that rows are sent on there as soon as they are found
+-- and that rows are sent on there as each block or round was searched
 abbrev pub paced_on : (terminal : Bool) → Pace → Pace
 paced_on terminal pace = record pace { line_buffered = pace.line_buffered || terminal }
 

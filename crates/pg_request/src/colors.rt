@@ -4,8 +4,8 @@ ghost use Rattle.pg_request.specs.Asked.{asked_of, asked_on, is_colored, pace_of
 
 use pg_words::{Coloring, Request};
 
-/// A request whose rows are colored as it asks for, where standard output is a terminal or not. On a terminal they are
-/// sent on as soon as they are found.
+/// A request whose rows are colored as it asks for, where standard output is a terminal or not. On a terminal rows are
+/// sent on as each block, or round of blocks, was searched, as with --line-buffered.
 pub fn request_on(mut request: Request<'_>, terminal: bool) -> Request<'_>
     ensures asked { asked_of result ≡ asked_on terminal (asked_of request.entry) }
     ensures pace { pace_of result ≡ paced_on terminal (pace_of request.entry) }

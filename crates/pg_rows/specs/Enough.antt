@@ -1,4 +1,4 @@
--- When what was read of a file settles what it gives (XCU grep, -l and -q; GNU grep, -m).
+-- When what was read of a file settles what it gives (XCU grep, -l and -q; GNU grep, -L and -m).
 use Rattle.std.specs.Prelude.{ℕ, Bool, false, not, nat_lt, ◌&&◌, if◌then◌else◌, List, [], ◌∷◌, length}
 use Rattle.std.specs.List.{list_any, count_by}
 use Rattle.pg_selection.specs.Search.{Search, terminator}

@@ -29,7 +29,8 @@ is_quiet Names = false
 is_quiet Others = false
 is_quiet Quiet = true
 
--- the file's name is written, by whether a line of the file is selected
+-- In a mode whose files end in the row of their name: it is written, by whether a line of the file is selected. Of the
+-- other modes that isn't asked (`row_at_end`).
 abbrev pub is_named : Mode → (selected : Bool) → Bool
 is_named Rows selected = selected
 is_named Count selected = selected

@@ -22,7 +22,7 @@ use Rattle.pg_rows.specs.Stretch.{AllSelected}
 use Rattle.pg_rows.specs.Printing.{IsAt}
 use Rattle.pg_rows.specs.Window.{held, IsWindow}
 
--- rows are those of whole lines: neither -c, -l, -q nor -o
+-- rows are those of whole lines: neither -c, -l, -L, -q nor -o
 abbrev pub shows_lines : Format → Bool
 shows_lines format = shows_rows format.mode && not format.parts
 

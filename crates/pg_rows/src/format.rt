@@ -63,7 +63,8 @@ impl Mode {
         }
     }
 
-    /// Whether the row of a file's name is written, by whether a line of the file is selected.
+    /// Whether the row of a file's name is written, by whether a line of the file is selected, in a mode whose files
+    /// end in such a row.
     pub(crate) fn is_named(self, selected: bool) -> bool
         ensures { result ≡ is_named self selected }
     {
@@ -98,16 +99,17 @@ pub struct Format {
     pub offsets: bool,
     /// -T: a tab stands before a row's text, where that isn't empty and something else stands before it.
     pub tabs: bool,
+    /// What is written of each file: rows of lines, a count, its name, or nothing.
     pub mode: Mode,
     /// -o: with `Mode::Rows` the matched parts of the lines that are kept have rows, and not the lines.
     pub parts: bool,
     /// --color: names, numbers, marks and the matched parts of kept lines stand in colors.
     pub colored: bool,
-    /// -m: at most so many selected lines of a file count.
+    /// -m: how many selected lines of each file count at most, which isn't 0.
     pub limit: Option<u32>,
-    /// -B: so many lines before a selected line are shown as its context.
+    /// -B: how many lines before a selected line are shown as its context.
     pub before: Option<u16>,
-    /// -A: so many lines after a selected line are shown as its context.
+    /// -A: how many lines after a selected line are shown as its context.
     pub after: Option<u32>,
     /// --group-separator: where there is context, a row with this text stands between groups of lines that aren't
     /// adjacent, and with `None`, which is --no-group-separator, nothing.

@@ -480,8 +480,8 @@ impl<A: Allocator + Copy + Send + Sync, Q: BlockSearch<Alloc = A, Scratch: Send>
         self.flush(rt, out)
     }
 
-    /// Searches the blocks that wait, if there are any, and has all rows sent on, where that is due: before a fault line,
-    /// which belongs behind them.
+    /// Searches the blocks that wait, if there are any, and has all rows sent on, where that is due: before a fault
+    /// line, which belongs behind them.
     pub(crate) fn send_rows<R: Threads + Wait + Clock + Sync, W: Sink>(
         &mut self,
         rt: &R,
@@ -515,8 +515,8 @@ impl<A: Allocator + Copy + Send + Sync, Q: BlockSearch<Alloc = A, Scratch: Send>
         self.flush(rt, out)
     }
 
-    /// Searches what waits and has its rows sent on, before the run breaks off by this fault. Answers it, or the fault by
-    /// which that broke off.
+    /// Searches what waits and has its rows sent on, before the run breaks off by this fault. Answers it, or the fault
+    /// by which that broke off.
     pub(crate) fn break_off<R: Threads + Wait + Clock + Sync, W: Sink>(
         &mut self,
         rt: &R,

@@ -249,12 +249,10 @@ fn search_files<
 /// A file isn't read further, and with -q no further one is asked for, once nothing that stands behind
 /// changes what is written. Not more of a file is held than two rounds of blocks and what one read gives.
 ///
-/// A block that isn't searched in a round is the first of its own.
-///
 /// # Errors
 ///
 /// `Sink` where a write failed or took no byte, `TooLong` where a line is longer than the setup allows or a file has
-/// more than 2^62 bytes, `TooManyFiles` at file number 2^32, and `OutOfMemory` where a request for memory was refused.
+/// more than 2^62 bytes, `TooManyFiles` at the 2^32nd file, and `OutOfMemory` where a request for memory was refused.
 /// Where the fault isn't `Sink`, no write failed. `out` and `faults` got beginnings of what they would have got; at
 /// `TooLong` and `TooManyFiles` `out` got all of the output of the files before the one that is at fault, and `faults`
 /// all lines.

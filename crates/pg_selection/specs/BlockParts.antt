@@ -1,4 +1,4 @@
--- The matched parts of a block's selected lines, which -o shows.
+-- The matched parts of a block's selected lines, which -o shows and --color paints.
 use Rattle.std.specs.Prelude.{◌≡◌, ℕ, ◌+◌, if◌then◌else◌, List, [], ◌∷◌, ◌++◌, length, map}
 use Rattle.pg_blocks.specs.Lines.{lines}
 use Rattle.pg_selection.specs.Search.{SearchText, Search, Pattern, AreTreesOf, search_of, terminator}
@@ -16,7 +16,8 @@ parts_of_lines q at seen (l ∷ ls) =
     (if selects q l then map (part_at at seen) (parts q l) else [])
     ++ parts_of_lines q (at + (length l + 1)) (seen + 1) ls
 
--- for the trees that the patterns spell these are the parts of the selected lines of the bytes, where -o asks for them
+-- for the trees that the patterns spell these are the parts of the selected lines of the bytes, where the text asks for
+-- them
 abbrev pub HasParts : SearchText → List ℕ → List Part → Type 0
 HasParts text bytes found = (trees : List Pattern) → AreTreesOf text trees →
     found ≡ (if text.pieces

@@ -16,8 +16,8 @@ pub record Searched : Type 0 where
 abbrev pub lines_of : Searched → List (List ℕ)
 lines_of r = lines (terminator_of r.query) r.block.bytes
 
--- all that a search has to find in some bytes: the selected lines, their parts where -o asks for them, and how many
--- lines there are
+-- all that a search has to find in some bytes: the selected lines, their parts where the text asks for them, and
+-- how many lines there are
 pub record IsFound {A : Type 0} (text : SearchText) (bytes : List ℕ) (found : Found A) : Type 0 where
   pub runs : HasRuns text bytes found.runs.items
   pub parts : HasParts text bytes found.parts.items

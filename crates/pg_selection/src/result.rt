@@ -75,7 +75,7 @@ impl<A: Allocator> BlockResult<A> {
         self.found.runs.as_slice()
     }
 
-    /// The matched parts of the selected lines, in rising order, where they are asked for by -o. None is empty.
+    /// The matched parts of the selected lines, in rising order, where the text asks for them. None is empty.
     pub fn parts(&self) -> &[Part]
         ensures { HasParts self.now.query self.now.block.bytes result.now }
     {

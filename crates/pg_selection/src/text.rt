@@ -21,7 +21,7 @@ pub struct QueryText<A: Allocator = Global> {
     pub word: bool,
     /// -v: the lines that are otherwise not selected are selected.
     pub invert: bool,
-    /// -o: the matched parts of a line are looked for.
+    /// Whether the matched parts of lines are looked for: with -o, and where they are colored.
     pub pieces: bool,
     /// -z: byte 0 ends a line, in place of newline.
     pub zero: bool,
@@ -84,8 +84,8 @@ impl<A: Allocator> QueryText<A> {
     }
 }
 
-/// A text each of whose patterns is an expression of its kind, so that it says of each line whether it is selected.
-/// Contracts see it as its text.
+/// The text of a query each of whose patterns is an expression of its kind, so that each line is either selected or
+/// not. Contracts see it as its text.
 pub struct Selector<A: Allocator = Global> {
     text: QueryText<A>,
 }

@@ -1,4 +1,4 @@
--- What stays the same however much more of a file could be read (XCU grep, -l and -q; GNU grep, -m).
+-- What stays the same however much more of a file could be read (XCU grep, -l and -q; GNU grep, -L and -m).
 use Rattle.std.specs.Prelude.{◌≡◌, ℕ, Bool, true, false, List, [], ◌∷◌, ◌++◌}
 use Rattle.std.specs.List.{list_any}
 use Rattle.pg_selection.specs.Search.{Search, terminator}

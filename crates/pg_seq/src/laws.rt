@@ -46,9 +46,9 @@ pub fn later_files_stay_unread()
 {}
 
 /// The files of a run may be searched in shares, by runs of their own, in this order: their outputs, one behind the
-/// other, are that of all files. With context the row of hyphens stands between two outputs that both have rows. Names
-/// stand before rows by the format alone, so where they are to be shown each share has to be asked for them (-H), also
-/// one of a single file.
+/// other, are that of all files. With context the group separator, if there is one, stands between two outputs that
+/// both have rows. Names stand before rows by the format alone, so where they are to be shown each share has to be
+/// asked for them (-H), also one of a single file.
 pub fn shares_join()
     ensures plain { (q : Search) (format : Format) (first : List Entry) (later : List Entry) →
         has_separators format ≡ false →

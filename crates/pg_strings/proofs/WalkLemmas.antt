@@ -77,7 +77,8 @@ walk_first P H strings first next h link within chains read =
     )
 
 -- and goes on at the one that was read there
-pub walk_next : (P : List ℕ → Type 0) (H : List ℕ → ℕ) (strings : List (List ℕ)) (first next : List ℕ) (link h before : ℕ)
+pub walk_next : (P : List ℕ → Type 0) (H : List ℕ → ℕ) (strings : List (List ℕ)) (first next : List ℕ)
+    (link h before : ℕ)
     → AreChains first next (map H strings) → 0 < link → link ≤ length strings
     → IsWalked P H strings link h → P (get_or strings (link - 1) []) → before ≡ get_or next (link - 1) before
     → (before ≤ link - 1) × IsWalked P H strings before h
@@ -115,8 +116,8 @@ walk_weaker P Q H strings link h weaker walked = record {
 -- at the end of the chain of a place, P holds of all strings of three bytes and more that stand there
 pub walk_ends : (P : List ℕ → Type 0) (factor width : ℕ) (strings : List (List ℕ)) (bytes : List ℕ) (place h : ℕ)
     → Weighs factor width → AreLong width strings → h ≡ key factor (drop place bytes) / 16
-    → IsWalked P (home factor) strings 0 h → (i : ℕ) (string : List ℕ) → i < length strings → get_or strings i string ≡ string
-    → 3 ≤ length string → OccursAt bytes string place → P string
+    → IsWalked P (home factor) strings 0 h → (i : ℕ) (string : List ℕ) → i < length strings
+    → get_or strings i string ≡ string → 3 ≤ length string → OccursAt bytes string place → P string
 walk_ends P factor width strings bytes place h weighs are_long e walked i string less is three occurs =
     let at : get_or strings i [] ≡ string = get_or_default strings i [] string less ∙ is in
     let long : width ≤ length string =

@@ -1,6 +1,7 @@
 -- Strings that are known by all their bytes: for `number_of`, `WholeStrings` and the searches in find_whole.rt.
-use Rattle.std.proofs.Common.{◌≡◌, ℕ, ◌+◌, ◌-◌, ◌<◌, ◌≤◌, ◌↔◌, ◌++◌, ◌∷◌, ◌||◌, IsTrue, Bool, true, false, List, [], length}
-use Rattle.std.proofs.Common.{map, drop, take, get_or, refl, sym, ap, ◌∙◌, arith, subst, inl, inr, zero-add}
+use Rattle.std.proofs.Common.{◌≡◌, ℕ, ◌+◌, ◌-◌, ◌<◌, ◌≤◌, ◌↔◌, ◌++◌, ◌∷◌, ◌||◌, IsTrue, Bool, true, false}
+use Rattle.std.proofs.Common.{List, [], length, map, drop, take, get_or, refl, sym, ap, ◌∙◌, arith}
+use Rattle.std.proofs.Common.{subst, inl, inr, zero-add}
 use Rattle.std.specs.Prelude.{nat_eq, Contains}
 use Rattle.std.specs.List.{All, list_any, sum_by}
 use Rattle.std.proofs.lemmas.Bool.{eqb-true, eq-eqb, cases_lt}
@@ -44,7 +45,8 @@ pub whole_more : (lengths lengths' first next first' next' : List ℕ) (strings 
 whole_more lengths lengths' first next first' next' strings string h before more is chains = record {
   all = All-push (λ s. list_any (λ len. nat_eq len (length s)) lengths' ≡ true) strings string
       (All-weaker (λ s. list_any (λ len. nat_eq len (length s)) lengths ≡ true)
-      (λ s. list_any (λ len. nat_eq len (length s)) lengths' ≡ true) (λ s yes. more.0 (length s) yes) strings before.all)
+      (λ s. list_any (λ len. nat_eq len (length s)) lengths' ≡ true) (λ s yes. more.0 (length s) yes) strings
+      before.all)
       more.1;
   worth =
       let all = sum_by-append (λ s. 1 + length s) strings (string ∷ []) in

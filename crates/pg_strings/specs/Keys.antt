@@ -39,6 +39,6 @@ pub record AreChains (first next homes : List ℕ) : Type 0 where
 abbrev pub AreFlagged : ℕ → List Bool → List (List ℕ) → Type 0
 AreFlagged factor flags strings = All (λ string. slice_index_or flags (key factor string) true ≡ true) strings
 
--- No string is empty, and keys tell the strings of three bytes and more apart by bytes that each of them has.
+-- no string is empty, and each of three bytes and more has the bytes on which keys depend
 abbrev pub AreLong : ℕ → List (List ℕ) → Type 0
 AreLong width strings = All (λ string. (1 ≤ length string) × (3 ≤ length string → width ≤ length string)) strings

@@ -5,7 +5,7 @@ ghost use Rattle.std.specs.Prelude.{◌+◌, ◌*◌, ◌≤◌};
 const RATE: usize = 8;
 
 /// What a search may still spend on comparing strings, so that it takes linear time. To compare one string costs 1, and
-/// an eighth of its length where its last byte stands where it has to. Each byte that the search passes adds 8.
+/// an eighth of its length if its last byte matches. Each byte that the search passes adds 8.
 #[derive(Clone, Copy, Debug, PartialEq, Eq)]
 pub struct Budget {
     pub left: usize,

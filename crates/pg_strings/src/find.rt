@@ -16,8 +16,7 @@ use std::alloc::Allocator;
 impl<A: Allocator> StringSet<A> {
     /// The first place at or behind `from` at which some string stands, as far as the budget goes.
     ///
-    /// A place is looked at in the time that comparing all strings there takes, at most. Where the budget is used up,
-    /// the search gives up.
+    /// Looking at one place compares each string at most once. Where the budget is used up, the search gives up.
     pub fn find(&self, bytes: &[u8], from: usize, budget: &mut Budget) -> Outcome
         requires { from ≤ length bytes.now }
         ensures outcome { IsOutcome (SomeStands (strings_of self.now) bytes.now) from (length bytes.now) result }

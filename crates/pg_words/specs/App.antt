@@ -64,8 +64,6 @@ app_with os = app_of_rules (map option_rule os ++ operands_rule ∷ [])
 abbrev pub our_app : App
 our_app = app_with table
 
--- ---- the command's rows, as the code has them
-
 -- ---- the rows of the code's table
 
 abbrev pub action_behind : Behind → ArgAction

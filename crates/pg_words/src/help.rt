@@ -50,7 +50,7 @@ Output:
                              color matches, names and numbers: always, never
                              (default) or auto (only on a terminal); without
                              =WHEN it is auto
-      --line-buffered        print lines as soon as they are found
+      --line-buffered        print lines as soon as their block is searched
 
 Files:
   -r, --recursive            search the files below each directory

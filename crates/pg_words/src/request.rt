@@ -65,11 +65,11 @@ pub struct Request<'a> {
     pub silent: bool,
     /// --line-buffered: rows are sent on as each block, or round of blocks, was searched.
     pub line_buffered: bool,
-    /// --workers N: so many threads search.
+    /// --workers N: at most N threads search beside the one that reads, 1 to 64.
     pub workers: u32,
-    /// --block N: each file is cut into blocks of at least so many bytes.
+    /// --block N: each file is cut into blocks of at least N bytes, 1 to 2^24.
     pub block: u32,
-    /// --round N: at most so many blocks are searched together.
+    /// --round N: at most N blocks are searched together, 1 to 1,024.
     pub round: u32,
     /// --always-spread: rounds of any size are searched by threads. It serves tests.
     pub always_spread: bool,

@@ -31,7 +31,7 @@ pub enum UsageFault {
     ExcludedByParts,
     /// There is no -e, no -f and no operand.
     NoPattern,
-    /// Beside -r or -R there is no FILE.
+    /// A recursive search (-r, -R or -d recurse) has no FILE.
     NoOperand,
 }
 
@@ -68,7 +68,7 @@ impl UsageFault {
 /// # Errors
 ///
 /// The first fault that there is, in the order of [`UsageFault`]: `NoPattern` where there is neither a
-/// text nor a file of patterns, `NoOperand` where there is -r or -R and no FILE, and no other fault.
+/// text nor a file of patterns, `NoOperand` where a recursive search has no FILE, and no other fault.
 pub fn check_usage(
     options: &Options,
     texts: &[&str],

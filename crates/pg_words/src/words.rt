@@ -52,9 +52,9 @@ pub enum Task<'a> {
 /// Why there is no request.
 #[derive(Drop)]
 pub enum WordsFault {
-    /// They aren't the command's. The text says why, and ends with a newline.
+    /// They form no command line. The text says why, and ends with a newline.
     Refused(String),
-    /// They are the command's, and exclude one another or ask for nothing.
+    /// They form one, but options in it exclude one another, or it asks for nothing.
     Usage(UsageFault),
     /// A request for memory was refused.
     OutOfMemory,

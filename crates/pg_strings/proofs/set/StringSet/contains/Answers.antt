@@ -5,4 +5,5 @@ use Rattle.pg_strings.proofs.set.StringSet.contains.Goals as goal
 
 pub returns-in-Some-longest_at : goal.returns-in-Some-longest_at
 returns-in-Some-longest_at g c =
-    line_is (map items_of c.args.self.now.strings.items) c.args.line.now c.in-Some-longest_at.len _ refl c.in-Some-longest_at.ensures
+    line_is (map items_of c.args.self.now.strings.items) c.args.line.now c.in-Some-longest_at.len _ refl
+    c.in-Some-longest_at.ensures

@@ -16,8 +16,8 @@ loop-link-init g c =
     let strings = map items_of vecs in
     let h = c.last_key_at-key.result / 16 in
     let P : List ℕ → Type 0 = λ string. OccursAt c.args.bytes.now string c.args.place → ⊥ in
-    let walk = walk_first P (home set.factor) strings set.chains.first.items set.chains.next.items h c.index-link.result.now
-    (omega (arith, c.last_key_at-key.ensures.few)) set.linked c.index-link.ensures in
+    let walk = walk_first P (home set.factor) strings set.chains.first.items set.chains.next.items h
+    c.index-link.result.now (omega (arith, c.last_key_at-key.ensures.few)) set.linked c.index-link.ensures in
     record {
       within = omega (arith, walk.0, length-map vecs items_of);
       walked = walk.1;

@@ -8,8 +8,8 @@ use Rattle.pg_strings.proofs.set.StringSet.look_at.Given as goal
 abbrev pub invariant-loop-link : goal.invariant-loop-link
 invariant-loop-link g l = record {
   within : l.link ≤ length l.self.strings.items;
-  walked : IsWalked (λ string. OccursAt l.bytes string l.place → ⊥) (home l.self.factor) (map items_of l.self.strings.items)
-      l.link (l.key / 16);
+  walked : IsWalked (λ string. OccursAt l.bytes string l.place → ⊥) (home l.self.factor)
+      (map items_of l.self.strings.items) l.link (l.key / 16);
   less : l.budget.left ≤ l.fn.budget.left;
   cost : l.fn.budget.left ≤ l.budget.left
       + sum_by (λ string. 1 + length string) (drop l.link (map items_of l.self.strings.items));
