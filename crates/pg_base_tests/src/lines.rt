@@ -72,7 +72,7 @@ fn text_of<A: Allocator + Copy>(
         whole: has(letters, b'x'),
         word: has(letters, b'w'),
         invert: has(letters, b'v'),
-        pieces: has(letters, b'o'),
+        with_parts: has(letters, b'o'),
         zero: has(letters, b'z'),
     })
 }

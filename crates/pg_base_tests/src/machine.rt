@@ -6,7 +6,7 @@ ghost use Rattle.pg_match.specs.Machines.{Fits};
 
 use crate::rows::{Question, assert_rows, repeated};
 use pg_match::{BuildFault, Machine, Scratch};
-use pg_pattern::laws::next_piece_is_one;
+use pg_pattern::laws::next_part_is_one;
 use pg_pattern::{Bounds, Tree};
 use pg_syntax::{fixed, parse_ere};
 use refusing::Refusing;
@@ -41,7 +41,7 @@ fn show_found(machine: &Machine, scratch: &mut Scratch, line: &[u8], most: &str,
 {
     let is_selected = machine.selects(scratch, line);
     let visits = scratch.visits();
-    let part = machine.next_piece(scratch, line, 0);
+    let part = machine.next_part(scratch, line, 0);
     let _ = if visits.max(scratch.visits()) > most.parse().unwrap_or(0u128) {
         out.push_str("too many visits")
     } else {
@@ -57,7 +57,7 @@ fn show_counts(machine: &Machine, scratch: &mut Scratch, line: &[u8], out: &mut 
 {
     for is_of_part in [false, false, true, true] {
         if is_of_part {
-            machine.next_piece(scratch, line, 0);
+            machine.next_part(scratch, line, 0);
         } else {
             machine.selects(scratch, line);
         }
@@ -81,7 +81,7 @@ fn parts_of(
     let mut from = 0;
     for _ in 0..line.len() {
         let place = from.min(line.len());
-        let Some(part) = machine.next_piece(scratch, line, place) else {
+        let Some(part) = machine.next_part(scratch, line, place) else {
             break;
         };
         let _ = parts.push(part);
@@ -228,7 +228,7 @@ fn visits_counts_and_parts(rt: HostRuntime) {
     for rows in [VISITS, COUNTS, DEEP, PARTS] {
         assert_rows(&rt, rt.alloc(), Question::Visits, rows);
     }
-    next_piece_is_one();
+    next_part_is_one();
 }
 
 /// Whether a machine selects a line and finds its first part, and asks for no memory meanwhile. The scratch is the
@@ -242,7 +242,7 @@ fn is_searched<A: Allocator + Copy>(
 {
     let requests = heap.requests();
     let is_selected = machine.selects(scratch, b"xaab");
-    let part = machine.next_piece(scratch, b"xaab", 0);
+    let part = machine.next_part(scratch, b"xaab", 0);
     is_selected && part == Some((2, 4)) && heap.requests() == requests
 }
 

@@ -33,7 +33,7 @@ use Rattle.pg_lines.proofs.RunLemmas.{all_back}
 -- the parts of the lines before a place, where they are asked for
 abbrev pub parts_before : Search → List ℕ → ℕ → List Part
 parts_before q bytes place =
-    if q.text.pieces then parts_of_lines q 0 0 (lines (terminator q) (take place bytes)) else []
+    if q.text.with_parts then parts_of_lines q 0 0 (lines (terminator q) (take place bytes)) else []
 
 -- a line that is selected since nothing in it is matched has no part
 pub no_parts : (q : Search) (line : List ℕ) → q.text.invert ≡ true → selects q line ≡ true → parts q line ≡ []
@@ -120,8 +120,8 @@ module _ (q : Search) (bytes : List ℕ) (runs : List Run) (run : Run) (g : IsGa
       ∙ ap (λ xs. parts_of_lines q 0 0 (lines E xs)) (sym (before q bytes runs run g)))
 
   pub parts_of_all : AllLines q false (drop run.span.end bytes) → parts_before q bytes run.span.end
-      ≡ cond q.text.pieces (parts_of_lines q 0 0 (lines (terminator q) bytes)) []
-  parts_of_all nothing = ap (λ ps. cond q.text.pieces ps []) (sym (parts_to_end nothing))
+      ≡ cond q.text.with_parts (parts_of_lines q 0 0 (lines (terminator q) bytes)) []
+  parts_of_all nothing = ap (λ ps. cond q.text.with_parts ps []) (sym (parts_to_end nothing))
 
   module _ (line : Span) (found : IsNextLine q run.span.end (drop run.span.end bytes) line) where
     -- the line is one, and selected
@@ -201,12 +201,12 @@ module _ (q : Search) (bytes : List ℕ) (runs : List Run) (run : Run) (g : IsGa
       pub parts_with_line : (text : List ℕ) → lines (terminator q) (slice_range bytes line.start line.end) ≡ text ∷ []
           → selects q text ≡ true → (number : ℕ) → number + 1 ≡ new.first + new.count
           → parts_before q bytes new.span.end ≡ parts_before q bytes run.span.end
-          ++ cond q.text.pieces (map (part_at line.start number) (parts q text)) []
+          ++ cond q.text.with_parts (map (part_at line.start number) (parts q text)) []
       parts_with_line text alone chosen number counted =
           let own = map (part_at line.start number) (parts q text) in
           let earlier = parts_of_lines q 0 0 (lines (terminator q) (take run.span.end bytes)) in
-          ap (λ ps. cond q.text.pieces ps []) (parts_to_line text alone chosen number counted)
-          ∙ elim (q.text.pieces) as (λ b. cond b (earlier ++ own) [] ≡ cond b earlier [] ++ cond b own []) [
+          ap (λ ps. cond q.text.with_parts ps []) (parts_to_line text alone chosen number counted)
+          ∙ elim (q.text.with_parts) as (λ b. cond b (earlier ++ own) [] ≡ cond b earlier [] ++ cond b own []) [
             | true ↦ refl
             | false ↦ refl
           ]
@@ -224,7 +224,7 @@ kept_none before own asked (inr e) =
     nothing false = refl
 
 pub parts_before_none : (q : Search) (bytes : List ℕ) → parts_before q bytes 0 ≡ []
-parts_before_none q bytes = elim (q.text.pieces) as (λ b. ◌≡◌ {A = List Part} (cond b [] []) []) [
+parts_before_none q bytes = elim (q.text.with_parts) as (λ b. ◌≡◌ {A = List Part} (cond b [] []) []) [
   | true ↦ refl
   | false ↦ refl
 ]

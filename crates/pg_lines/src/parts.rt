@@ -40,8 +40,8 @@ fn next_part<A: Allocator>(
     match strings.next_part(query, line, at, from) {
         NextString::Found(part) => Some((part.start, part.end)),
         NextString::Nowhere => None,
-        NextString::Behind(place) => machine.next_piece(scratch, line, place),
-        NextString::GaveUp => machine.next_piece(scratch, line, from),
+        NextString::Behind(place) => machine.next_part(scratch, line, place),
+        NextString::GaveUp => machine.next_part(scratch, line, from),
     }
 }
 
@@ -96,11 +96,11 @@ pub(crate) fn push_line_parts<A: Allocator>(
     ensures parts { (trees : List Pattern) → AreTreesOf query.now.text trees → (text : List ℕ)
         → lines (terminator_of query.now.text) (slice_range bytes.now line.start line.end) ≡ text ∷ []
         → selects (search_of query.now.text trees) text ≡ true → OnOk result (found.new.items ≡ found.old.items
-        ++ (if query.now.text.pieces
+        ++ (if query.now.text.with_parts
         then map (part_at line.start number) (parts (search_of query.now.text trees) text) else [])) }
 {
     let options = query.text();
-    if options.pieces && !options.invert {
+    if options.with_parts && !options.invert {
         let text = text_of(query.terminator(), line.of(bytes));
         push_parts(query, strings, scratch, text, line.start, number, found)
     } else {

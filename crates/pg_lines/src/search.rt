@@ -54,7 +54,7 @@ fn has_hit<A: Allocator>(
     match strings.next_part(query, line, at, 0) {
         NextString::Found(_) => true,
         NextString::Nowhere => false,
-        NextString::Behind(place) => query.machine().next_piece(scratch, line, place).is_some(),
+        NextString::Behind(place) => query.machine().next_part(scratch, line, place).is_some(),
         NextString::GaveUp => query.machine().selects(scratch, line),
     }
 }

@@ -143,7 +143,7 @@ pub(crate) fn only_head<'l, A: Allocator>(
     ensures some { IfSome result (λ _. 0 < length literals.now) }
 {
     let options = query.text();
-    if !options.pieces || options.invert || literals.len() != 1 || !literals[0].is_head {
+    if !options.with_parts || options.invert || literals.len() != 1 || !literals[0].is_head {
         return None;
     }
     Some(Finder::new(&literals[0].text))

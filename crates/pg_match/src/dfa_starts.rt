@@ -258,7 +258,7 @@ impl<A: Allocator> Automaton<A> {
     }
 
     /// The hit that comes next from a place on.
-    pub(crate) fn next_piece(
+    pub(crate) fn next_part(
         &self,
         sets: &mut StateSets<A>,
         memory: &mut Option<Cache<A>>,

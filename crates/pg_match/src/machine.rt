@@ -148,7 +148,7 @@ impl<A: Allocator> Machine<A> {
     /// empty the one that starts first, and of these the longest; `None` if there is none. Its
     /// offsets count bytes from the line's start, and the second is that behind its last byte. `from`
     /// is at most the line's length; otherwise as for [`Machine::selects`].
-    pub fn next_piece(
+    pub fn next_part(
         &self,
         scratch: &mut Scratch<A>,
         line: &[u8],
@@ -168,7 +168,7 @@ impl<A: Allocator> Machine<A> {
     {
         let automaton: &Automaton<A> = &self.automaton;
         let sets = &mut scratch.sets;
-        automaton.next_piece(sets, &mut scratch.memory, &mut scratch.anchored, line, from)
+        automaton.next_part(sets, &mut scratch.memory, &mut scratch.anchored, line, from)
     }
 }
 

@@ -13,7 +13,7 @@ pub fn hits_are_decided()
 {}
 
 /// A line has at most one next part from a place on.
-pub fn next_piece_is_one()
+pub fn next_part_is_one()
     ensures { (patterns : List Pattern) (bounds : Bounds) (line : List ℕ) (place i j i' j' : ℕ)
         → IsNext patterns bounds line place i j → IsNext patterns bounds line place i' j' → (i ≡ i') × (j ≡ j') }
 {}

@@ -13,7 +13,7 @@ use Rattle.pg_rows.specs.declared.format.Format.{Format}
 use Rattle.pg_rows.specs.declared.format.Mode.{Mode}
 use Rattle.pg_rows.specs.Modes.{shows_rows, end_row, rows_in}
 use Rattle.pg_base.specs.Entries.{Entry, Read, Running, Ended, Failed, is_running}
-use Rattle.pg_rows.specs.Output.{output, file_rows, is_below, line_rows, piece_rows, count_row, name_row}
+use Rattle.pg_rows.specs.Output.{output, file_rows, is_below, line_rows, part_rows, count_row, name_row}
 use Rattle.pg_plan.specs.Plan.{Step, Opens, Announces, Ends, Misses, IsShaped, is_open, last_blocks, entries_of}
 use Rattle.pg_plan.specs.Plan.{with_bytes, with_end}
 use Rattle.pg_base.specs.Sink.{IsBeginning}
@@ -89,7 +89,7 @@ module _ (q : Search) (format : Format) (limited : is_below 0 format.limit ≡ t
 
   -- the rows of lines, as the mode has them
   abbrev line_part : List ℕ → List (List ℕ) → Bool → List ℕ
-  line_part name ls earlier = cond format.parts (piece_rows q format name ls) (line_rows q format name ls earlier)
+  line_part name ls earlier = cond format.parts (part_rows q format name ls) (line_rows q format name ls earlier)
 
   file_running : (name bytes : List ℕ) (earlier : Bool)
       → file_rows q format name bytes false earlier ≡ rows_in format.mode
@@ -111,8 +111,8 @@ module _ (q : Search) (format : Format) (limited : is_below 0 format.limit ≡ t
   part_more c ls ms earlier h e = go format.parts e
     where
       go : (t : Bool) → (t ≡ false → c.earlier ≡ earlier)
-          → cond t (piece_rows q format c.name (ls ++ ms)) (line_rows q format c.name (ls ++ ms) earlier) ≡ cond t
-          (piece_rows q format c.name ls) (line_rows q format c.name ls earlier) ++ cond t
+          → cond t (part_rows q format c.name (ls ++ ms)) (line_rows q format c.name (ls ++ ms) earlier) ≡ cond t
+          (part_rows q format c.name ls) (line_rows q format c.name ls earlier) ++ cond t
           (run_pieces q format c.name c.trail ms) (run_rows q format c.name c.earlier c.trail ms)
       go true f = pieces_more q format c.name ls ms c.trail h
       go false f = rows_more q format c.name earlier ls ms c.trail h
@@ -126,7 +126,7 @@ module _ (q : Search) (format : Format) (limited : is_below 0 format.limit ≡ t
       (file_running name [] earlier ∙ (ap (λ xs. rows_in format.mode xs [] []) (none format.parts)
       ∙ nothing_in format.mode)) ∙ append-nil (output q format (entries_of p))
     where
-      none : (t : Bool) → cond t (piece_rows q format name [])
+      none : (t : Bool) → cond t (part_rows q format name [])
           (line_rows q format name [] (something (output q format (entries_of p)))) ≡ []
       none true = refl
       none false = refl

@@ -49,7 +49,7 @@ text_with asked lists = record {
   whole = asked.whole;
   word = asked.word;
   invert = asked.invert;
-  pieces = wants_parts asked;
+  with_parts = wants_parts asked;
   zero = asked.zero;
 }
 

@@ -27,7 +27,7 @@ pub fn text_of(
         whole: request.whole,
         word: request.word,
         invert: request.invert,
-        pieces: wants_parts(request),
+        with_parts: wants_parts(request),
         zero: request.zero,
     })
 }

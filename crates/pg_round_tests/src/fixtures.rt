@@ -27,7 +27,7 @@ pub(crate) fn text<A: Allocator + Copy>(alloc: A) -> Result<QueryText<A>, AllocE
         whole: false,
         word: false,
         invert: false,
-        pieces: false,
+        with_parts: false,
         zero: false,
     })
 }

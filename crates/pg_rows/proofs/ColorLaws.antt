@@ -17,7 +17,7 @@ use Rattle.pg_rows.specs.Colors.{without_from, without_escapes}
 use Rattle.pg_rows.specs.Modes.{is_named, rows_in}
 use Rattle.pg_rows.specs.Output.{is_nothing, when, row, tab_before, gap_text, painted, shown_text, told_parts, line_at}
 use Rattle.pg_rows.specs.Output.{has_prefix, line_start, number_text}
-use Rattle.pg_rows.specs.Output.{separator, is_shown, is_kept, mark_of, members, line_rows, piece_rows, count_row}
+use Rattle.pg_rows.specs.Output.{separator, is_shown, is_kept, mark_of, members, line_rows, part_rows, count_row}
 use Rattle.pg_rows.specs.Output.{name_row}
 use Rattle.pg_rows.specs.Output.{file_rows, name_text, name_end, name_mark, mark_text, has_separators, is_behind}
 use Rattle.pg_rows.specs.Separator.{text_between}
@@ -317,7 +317,7 @@ module _ (q : Search) (format : Format) where
       (strips_parts name number offset l p.1 ps h k a.3)
 
   strips_pieces : (name : List ℕ) (ls : List (List ℕ)) → IsClean name → AllByRecursion IsClean ls
-      → Strips (piece_rows q on name ls) (piece_rows q off name ls)
+      → Strips (part_rows q on name ls) (part_rows q off name ls)
   strips_pieces name ls h k =
       let given : Format → ℕ → List ℕ = λ f i. flat_map (λ p. row f end name (i + 1) (line_start ls i + p.0) 58
       (in_color f.colored part_color (slice_range (line_at ls i) p.0 p.1))) (told_parts q (line_at ls i)) in
@@ -358,7 +358,7 @@ colors_add q format name bytes ended earlier clear_name clear_bytes clear_text =
     let off : Format = record format { colored = false } in
     let ls = lines (terminator q) bytes in
     let h = clean name clear_name in
-    let rows : Format → List ℕ = λ f. cond format.parts (piece_rows q f name ls) (line_rows q f name ls earlier) in
+    let rows : Format → List ℕ = λ f. cond format.parts (part_rows q f name ls) (line_rows q f name ls earlier) in
     let count : Format → List ℕ = λ f. when ended (count_row q f name ls) in
     let listed : Format → List ℕ = λ f. when ended (name_row q f name ls) in
     stripped (rows_in format.mode (rows on) (count on) (listed on))
@@ -369,9 +369,9 @@ colors_add q format name bytes ended earlier clear_name clear_bytes clear_text =
     (strips_when ended (name_row q on name ls) (name_row q off name ls) (strips_listed q format name ls h)))
   where
     of_rows : (parts : Bool)
-        → Strips (cond parts (piece_rows q (record format { colored = true }) name (lines (terminator q) bytes))
+        → Strips (cond parts (part_rows q (record format { colored = true }) name (lines (terminator q) bytes))
         (line_rows q (record format { colored = true }) name (lines (terminator q) bytes) earlier))
-        (cond parts (piece_rows q (record format { colored = false }) name (lines (terminator q) bytes))
+        (cond parts (part_rows q (record format { colored = false }) name (lines (terminator q) bytes))
         (line_rows q (record format { colored = false }) name (lines (terminator q) bytes) earlier))
     of_rows true = strips_pieces q format name (lines (terminator q) bytes) (clean name clear_name)
         (clean_lines (terminator q) bytes (clean bytes clear_bytes))

@@ -6,7 +6,7 @@ use Rattle.pg_blocks.proofs.LineLemmas.{lines-append}
 use Rattle.pg_rows.specs.declared.format.Format.{Format}
 use Rattle.pg_rows.specs.declared.format.Mode.{Mode}
 use Rattle.pg_rows.specs.Modes.{rows_in}
-use Rattle.pg_rows.specs.Output.{HasRoom, file_rows, when, line_rows, piece_rows, count_row, name_row}
+use Rattle.pg_rows.specs.Output.{HasRoom, file_rows, when, line_rows, part_rows, count_row, name_row}
 use Rattle.pg_rows.specs.Trail.{trail_of, run_rows, run_pieces}
 use Rattle.pg_rows.specs.Cursor.{block_rows, counted, cursor_after, named}
 use Rattle.pg_rows.specs.Enough.{lines_suffice, trail_suffices}
@@ -16,7 +16,7 @@ use Rattle.pg_rows.proofs.EnoughLemmas.{suffice_by}
 module _ (q : Search) (format : Format) (name : List ℕ) (earlier : Bool) where
   -- the rows of lines, with the matched parts or without
   abbrev part : Bool → List (List ℕ) → List ℕ
-  part pieces ls = cond pieces (piece_rows q format name ls) (line_rows q format name ls earlier)
+  part pieces ls = cond pieces (part_rows q format name ls) (line_rows q format name ls earlier)
 
   -- the rows of lines behind others
   abbrev part_behind : Bool → List (List ℕ) → List (List ℕ) → List ℕ

@@ -11,7 +11,7 @@ use Rattle.pg_selection.specs.Selection.{selects}
 use Rattle.pg_rows.specs.declared.format.Format.{Format}
 use Rattle.pg_rows.specs.Modes.{is_named}
 use Rattle.pg_rows.specs.Output.{name_end, name_mark, name_text, is_below, when, row, is_nothing, painted, line_rows}
-use Rattle.pg_rows.specs.Output.{piece_rows, count_row, name_row, size_of}
+use Rattle.pg_rows.specs.Output.{part_rows, count_row, name_row, size_of}
 use Rattle.pg_base.specs.Sink.{IsBeginning}
 use Rattle.pg_rows.specs.Stretch.{prefix_text}
 use Rattle.pg_rows.specs.Trail.{Trail, no_lines, step, trail_of, added, run_rows, run, added_pieces, run_pieces}
@@ -86,17 +86,17 @@ name_by_trail q format name ls t some h =
     ∙ kept_some format.limit t.kept (count_by (selects q) ls) some h.quota)
 
 pub pieces_more : (q : Search) (format : Format) (name : List ℕ) (ls ms : List (List ℕ)) (t : Trail)
-    → IsTrail q format ls t → piece_rows q format name
-    (ls ++ ms) ≡ piece_rows q format name ls ++ run_pieces q format name t ms
-pieces_more q format name ls [] t h = ap (piece_rows q format name) (append-nil ls)
-    ∙ sym (append-nil (piece_rows q format name ls))
+    → IsTrail q format ls t → part_rows q format name
+    (ls ++ ms) ≡ part_rows q format name ls ++ run_pieces q format name t ms
+pieces_more q format name ls [] t h = ap (part_rows q format name) (append-nil ls)
+    ∙ sym (append-nil (part_rows q format name ls))
 pieces_more q format name ls (m ∷ ms) t h =
     let one = added_pieces q format name t m in
     let rest = run_pieces q format name (step format t (selects q m) m) ms in
-    ap (piece_rows q format name) (sym (append_assoc ls (m ∷ []) ms))
+    ap (part_rows q format name) (sym (append_assoc ls (m ∷ []) ms))
     ∙ (pieces_more q format name (ls ++ m ∷ []) ms (step format t (selects q m) m) (trail_step q format ls m t h)
     ∙ (ap (λ xs. xs ++ rest) (pieces_step q format ls m t h name)
-    ∙ append_assoc (piece_rows q format name ls) one rest))
+    ∙ append_assoc (part_rows q format name ls) one rest))
 
 abbrev pub something : List ℕ → Bool
 something xs = not (is_nothing xs)

@@ -35,7 +35,7 @@ use Rattle.pg_rows.specs.Remembered.{HasLines}
 pub record HasFound (q : Search) (bytes : List ℕ) (runs : List Run) (parts : List Part) (count : ℕ) : Type 0 where
   pub found_lines : HasLines q bytes runs count
   pub found_parts : parts
-      ≡ (if q.text.pieces then parts_of_lines q 0 0 (lines (terminator q) bytes) else [])
+      ≡ (if q.text.with_parts then parts_of_lines q 0 0 (lines (terminator q) bytes) else [])
 
 -- A part stands in its line.
 
@@ -48,7 +48,7 @@ Ascend l at [] = at ≤ length l
 Ascend l at (p ∷ ps) = (at ≤ p.0) × (p.0 < p.1) × (p.1 ≤ length l) × Ascend l p.1 ps
 
 pub told_ascend : (q : Search) (l : List ℕ) → Ascend l 0 (told_parts q l)
-told_ascend q l = told q.text.pieces
+told_ascend q l = told q.text.with_parts
   where
     go : (place : ℕ) (ps : List (ℕ × ℕ)) → place ≤ length l → AreParts q.trees (bounds_of q.text) l place ps
         → Ascend l place ps
@@ -195,14 +195,14 @@ behind_cut q cut at seen (l ∷ ls) le =
 
 -- what is found is what is told line by line
 found_told : (q : Search) (at seen : ℕ) (ls : List (List ℕ))
-    → cond q.text.pieces (parts_of_lines q at seen ls) [] ≡ told_of_lines q at seen ls
-found_told q at seen [] = none_found q.text.pieces
+    → cond q.text.with_parts (parts_of_lines q at seen ls) [] ≡ told_of_lines q at seen ls
+found_told q at seen [] = none_found q.text.with_parts
   where
     none_found : (pieces : Bool) → cond pieces (parts_of_lines q at seen []) [] ≡ told_of_lines q at seen []
     none_found true = refl
     none_found false = refl
 found_told q at seen (l ∷ ls) =
-    go q.text.pieces (selects q l) (found_told q (at + (length l + 1)) (seen + 1) ls)
+    go q.text.with_parts (selects q l) (found_told q (at + (length l + 1)) (seen + 1) ls)
   where
     go : (pieces s : Bool)
         → cond pieces (parts_of_lines q (at + (length l + 1)) (seen + 1) ls) []

@@ -17,7 +17,7 @@ use Rattle.pg_selection.specs.Selection.{selects}
 use Rattle.pg_rows.specs.declared.format.Format.{Format}
 use Rattle.pg_rows.specs.Output.{line_at, line_start, size_of, is_below, is_kept, is_near, context, members, when}
 use Rattle.pg_rows.specs.Output.{row, has_separators}
-use Rattle.pg_rows.specs.Output.{gap_text, is_behind, separator, mark_of, line_rows, piece_rows, painted, shown_text}
+use Rattle.pg_rows.specs.Output.{gap_text, is_behind, separator, mark_of, line_rows, part_rows, painted, shown_text}
 use Rattle.pg_rows.specs.Trail.{Trail, no_lines, keeps, after_kept, after_context, after_other, with_offset, step}
 use Rattle.pg_rows.specs.Trail.{gap_row}
 use Rattle.pg_rows.specs.Trail.{context_rows, kept_rows, added, pieces_in, added_pieces}
@@ -386,7 +386,7 @@ module _ (q : Search) (format : Format) (ls : List (List ℕ)) (l : List ℕ) (t
     | inr none ↦ none
   ]
 
-  pub pieces_step : (name : List ℕ) → piece_rows q format name more ≡ piece_rows q format name ls ++ added_pieces q
+  pub pieces_step : (name : List ℕ) → part_rows q format name more ≡ part_rows q format name ls ++ added_pieces q
       format name t l
   pieces_step name =
       let given : List (List ℕ) → ℕ → List ℕ = λ xs i. pieces_in q format name (i + 1) (line_start xs i) (line_at xs i)

@@ -140,7 +140,7 @@ mark_of kept = if kept then colon else hyphen
 
 -- the parts of a line that results of the query tell: none where the query isn't asked for them
 abbrev pub told_parts : Search → List ℕ → List (ℕ × ℕ)
-told_parts q line = if q.text.pieces then parts q line else []
+told_parts q line = if q.text.with_parts then parts q line else []
 
 -- the text of a kept line: its matched parts stand in color
 abbrev pub painted : Search → Format → List ℕ → List ℕ
@@ -157,8 +157,8 @@ line_rows q format name ls earlier =
     (shown_text q format (is_kept q format.limit ls i) (line_at ls i)))
     (members (is_shown q format ls) ls)
 
-abbrev pub piece_rows : Search → Format → List ℕ → List (List ℕ) → List ℕ
-piece_rows q format name ls =
+abbrev pub part_rows : Search → Format → List ℕ → List (List ℕ) → List ℕ
+part_rows q format name ls =
     flat_map (λ i. flat_map (λ p. row format (terminator q) name (i + 1) (line_start ls i + p.0) colon
     (part_text format (slice_range (line_at ls i) p.0 p.1)))
     (told_parts q (line_at ls i)))
@@ -176,7 +176,7 @@ unfoldable pub file_rows : Search → Format → List ℕ → List ℕ → Bool 
 file_rows q format name bytes ended earlier =
     let ls = lines (terminator q) bytes in
     rows_in format.mode
-    (if format.parts then piece_rows q format name ls else line_rows q format name ls earlier)
+    (if format.parts then part_rows q format name ls else line_rows q format name ls earlier)
     (when ended (count_row q format name ls))
     (when ended (name_row q format name ls))
 

@@ -9,7 +9,7 @@ use Rattle.pg_blocks.proofs.LineLemmas.{lines-append}
 use Rattle.pg_rows.specs.declared.format.Format.{Format}
 use Rattle.pg_rows.specs.declared.format.Mode.{Mode}
 use Rattle.pg_base.specs.Entries.{Entry, Missed, Read, Ending, Running, Ended, Failed, Left, is_running}
-use Rattle.pg_rows.specs.Output.{HasRoom, is_nothing, has_selected, when, file_rows, line_rows, piece_rows}
+use Rattle.pg_rows.specs.Output.{HasRoom, is_nothing, has_selected, when, file_rows, line_rows, part_rows}
 use Rattle.pg_rows.specs.Modes.{is_quiet, shows_rows, end_row, rows_in}
 use Rattle.pg_rows.proofs.ModeLemmas.{no_end}
 use Rattle.pg_rows.specs.Output.{count_row, name_row, output}
@@ -33,7 +33,7 @@ PlanFollows q format planned given =
 
 abbrev line_part : Search → Format → List ℕ → List (List ℕ) → Bool → List ℕ
 line_part q format name ls earlier =
-    cond format.parts (piece_rows q format name ls) (line_rows q format name ls earlier)
+    cond format.parts (part_rows q format name ls) (line_rows q format name ls earlier)
 
 -- files that are alike leave `enough` as it is
 pub enough_alike : (q : Search) (format : Format) (e : Entry) (es fs : List Entry) → AreAlike q format es fs
@@ -139,8 +139,8 @@ part_begins : (q : Search) (format : Format) (name : List ℕ) (earlier : Bool) 
     → IsBeginning (line_part q format name ls earlier) (line_part q format name (ls ++ ms) earlier)
 part_begins q format name earlier ls ms = go format.parts
   where
-    go : (b : Bool) → IsBeginning (cond b (piece_rows q format name ls) (line_rows q format name ls earlier))
-        (cond b (piece_rows q format name (ls ++ ms)) (line_rows q format name (ls ++ ms) earlier))
+    go : (b : Bool) → IsBeginning (cond b (part_rows q format name ls) (line_rows q format name ls earlier))
+        (cond b (part_rows q format name (ls ++ ms)) (line_rows q format name (ls ++ ms) earlier))
     go true = (
       run_pieces q format name (trail_of q format ls) ms,
       sym

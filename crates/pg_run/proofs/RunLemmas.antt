@@ -14,7 +14,7 @@ use Rattle.pg_rows.specs.Modes.{is_quiet, rows_in}
 use Rattle.pg_rows.proofs.ModeLemmas.{nothing_in}
 use Rattle.pg_base.specs.Entries.{Entry, Missed, Read, Running, Ended, Failed, Left}
 use Rattle.pg_rows.specs.Output.{output, when, has_selected}
-use Rattle.pg_rows.specs.Output.{file_rows, line_rows, piece_rows, is_nothing}
+use Rattle.pg_rows.specs.Output.{file_rows, line_rows, part_rows, is_nothing}
 use Rattle.pg_rows.specs.Enough.{is_enough, file_suffices}
 use Rattle.pg_base.specs.Sink.{Stream, TakesPart, WritesAll, WritesPart}
 use Rattle.pg_base.proofs.WriteLemmas.{wrote_none}
@@ -219,7 +219,7 @@ no_rows : (q : Search) (format : Format) (name : List ℕ) (earlier : Bool)
 unfolding file_rows
 no_rows q format name earlier = ap (λ rows. rows_in format.mode rows [] []) (go format.parts) ∙ nothing_in format.mode
   where
-    go : (pieces : Bool) → cond pieces (piece_rows q format name []) (line_rows q format name [] earlier) ≡ []
+    go : (pieces : Bool) → cond pieces (part_rows q format name []) (line_rows q format name [] earlier) ≡ []
     go true = refl
     go false = refl
 

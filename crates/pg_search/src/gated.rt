@@ -38,7 +38,7 @@ impl<A: Allocator + Copy, G: Gate> BlockSearch for GatedQuery<'_, A, G> {
     fn scratch(&self) -> Result<Scratch<A>, AllocError>
         ensures fits { IfOk result (λ scratch. Fits scratch self.now.query.now.machine) }
     {
-        if self.query.text().pieces {
+        if self.query.text().with_parts {
             Scratch::with_parts(self.alloc, self.query.machine())
         } else {
             Scratch::new(self.alloc, self.query.machine())

@@ -24,7 +24,7 @@ plain lists kind = record {
   whole = false;
   word = false;
   invert = false;
-  pieces = false;
+  with_parts = false;
   zero = false;
 }
 

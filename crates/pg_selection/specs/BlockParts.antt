@@ -20,5 +20,5 @@ parts_of_lines q at seen (l ∷ ls) =
 -- them
 abbrev pub HasParts : SearchText → List ℕ → List Part → Type 0
 HasParts text bytes found = (trees : List Pattern) → AreTreesOf text trees →
-    found ≡ (if text.pieces
+    found ≡ (if text.with_parts
     then parts_of_lines (search_of text trees) 0 0 (lines (terminator (search_of text trees)) bytes) else [])

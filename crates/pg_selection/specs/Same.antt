@@ -19,7 +19,7 @@ kind_number Fixed = 2
 unfoldable pub same_text : SearchText → SearchText → Bool
 same_text a b =
     (kind_number a.kind == kind_number b.kind) && pointwise same_patterns a.lists b.lists && beq a.fold b.fold
-    && beq a.whole b.whole && beq a.word b.word && beq a.invert b.invert && beq a.pieces b.pieces
+    && beq a.whole b.whole && beq a.word b.word && beq a.invert b.invert && beq a.with_parts b.with_parts
     && beq a.zero b.zero
 
 beq_sound : (a b : Bool) → beq a b ≡ true → a ≡ b
@@ -57,8 +57,8 @@ lists_complete (x ∷ xs) =
     and_from (same_patterns x x) (pointwise same_patterns xs xs) (patterns_equal.complete x) (lists_complete xs)
 
 text_with : (a b : SearchText) → a.kind ≡ b.kind → a.lists ≡ b.lists → a.fold ≡ b.fold → a.whole ≡ b.whole
-    → a.word ≡ b.word → a.invert ≡ b.invert → a.pieces ≡ b.pieces → a.zero ≡ b.zero → a ≡ b
-text_with a b kind lists fold whole word invert pieces zero =
+    → a.word ≡ b.word → a.invert ≡ b.invert → a.with_parts ≡ b.with_parts → a.zero ≡ b.zero → a ≡ b
+text_with a b kind lists fold whole word invert with_parts zero =
     let K : Kind → SearchText = λ x. record a { kind = x } in
     let L : List Patterns → SearchText = λ x. record a { kind = b.kind; lists = x } in
     let F : Bool → SearchText = λ x. record b {
@@ -66,27 +66,27 @@ text_with a b kind lists fold whole word invert pieces zero =
       whole = a.whole;
       word = a.word;
       invert = a.invert;
-      pieces = a.pieces;
+      with_parts = a.with_parts;
       zero = a.zero;
     } in
     let X : Bool → SearchText = λ x. record b {
       whole = x;
       word = a.word;
       invert = a.invert;
-      pieces = a.pieces;
+      with_parts = a.with_parts;
       zero = a.zero;
     } in
-    let W : Bool → SearchText = λ x. record b { word = x; invert = a.invert; pieces = a.pieces; zero = a.zero } in
-    let I : Bool → SearchText = λ x. record b { invert = x; pieces = a.pieces; zero = a.zero } in
-    let P : Bool → SearchText = λ x. record b { pieces = x; zero = a.zero } in
+    let W : Bool → SearchText = λ x. record b { word = x; invert = a.invert; with_parts = a.with_parts; zero = a.zero } in
+    let I : Bool → SearchText = λ x. record b { invert = x; with_parts = a.with_parts; zero = a.zero } in
+    let P : Bool → SearchText = λ x. record b { with_parts = x; zero = a.zero } in
     let Z : Bool → SearchText = λ x. record b { zero = x } in
-    ap K kind ∙ (ap L lists ∙ (ap F fold ∙ (ap X whole ∙ (ap W word ∙ (ap I invert ∙ (ap P pieces ∙ ap Z zero))))))
+    ap K kind ∙ (ap L lists ∙ (ap F fold ∙ (ap X whole ∙ (ap W word ∙ (ap I invert ∙ (ap P with_parts ∙ ap Z zero))))))
 
 text_sound : (a b : SearchText) → same_text a b ≡ true → a ≡ b
 unfolding same_text
 text_sound a b e =
     let p7 = and_parts _ (beq a.zero b.zero) e in
-    let p6 = and_parts _ (beq a.pieces b.pieces) p7.0 in
+    let p6 = and_parts _ (beq a.with_parts b.with_parts) p7.0 in
     let p5 = and_parts _ (beq a.invert b.invert) p6.0 in
     let p4 = and_parts _ (beq a.word b.word) p5.0 in
     let p3 = and_parts _ (beq a.whole b.whole) p4.0 in
@@ -98,9 +98,9 @@ text_sound a b e =
     let whole = beq_sound a.whole b.whole p3.1 in
     let word = beq_sound a.word b.word p4.1 in
     let invert = beq_sound a.invert b.invert p5.1 in
-    let pieces = beq_sound a.pieces b.pieces p6.1 in
+    let with_parts = beq_sound a.with_parts b.with_parts p6.1 in
     let zero = beq_sound a.zero b.zero p7.1 in
-    text_with a b kind lists fold whole word invert pieces zero
+    text_with a b kind lists fold whole word invert with_parts zero
 
 text_complete : (a : SearchText) → same_text a a ≡ true
 unfolding same_text
@@ -110,7 +110,7 @@ text_complete a =
     let p3 = and_from _ _ p2 (beq_complete a.whole) in
     let p4 = and_from _ _ p3 (beq_complete a.word) in
     let p5 = and_from _ _ p4 (beq_complete a.invert) in
-    let p6 = and_from _ _ p5 (beq_complete a.pieces) in
+    let p6 = and_from _ _ p5 (beq_complete a.with_parts) in
     and_from _ _ p6 (beq_complete a.zero)
 
 pub text_equal : TestsEqual same_text

@@ -16,7 +16,7 @@ pub record SearchText : Type 0 where
   pub whole : Bool
   pub word : Bool
   pub invert : Bool
-  pub pieces : Bool
+  pub with_parts : Bool
   pub zero : Bool
 
 -- the trees are those that the patterns spell, in their order
@@ -45,7 +45,7 @@ uninverted text = record {
   whole = text.whole;
   word = text.word;
   invert = false;
-  pieces = text.pieces;
+  with_parts = text.with_parts;
   zero = text.zero;
 }
 

@@ -18,9 +18,9 @@ impl<A: Allocator> PartialEq for QueryText<A> {
         let whole = self.whole == other.whole;
         let word = self.word == other.word;
         let invert = self.invert == other.invert;
-        let pieces = self.pieces == other.pieces;
+        let with_parts = self.with_parts == other.with_parts;
         let zero = self.zero == other.zero;
-        kind & lists & fold & whole & word & invert & pieces & zero
+        kind & lists & fold & whole & word & invert & with_parts & zero
     }
 }
 

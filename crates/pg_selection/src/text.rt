@@ -22,7 +22,7 @@ pub struct QueryText<A: Allocator = Global> {
     /// -v: the lines that are otherwise not selected are selected.
     pub invert: bool,
     /// Whether the matched parts of lines are looked for: with -o, and where they are colored.
-    pub pieces: bool,
+    pub with_parts: bool,
     /// -z: byte 0 ends a line, in place of newline.
     pub zero: bool,
 }
@@ -36,7 +36,7 @@ impl<A: Allocator> Drop for QueryText<A> {
             whole: _,
             word: _,
             invert: _,
-            pieces: _,
+            with_parts: _,
             zero: _,
         } = self;
     }
@@ -57,7 +57,7 @@ impl<A: Allocator> Model for QueryText<A> {
       whole = t.whole;
       word = t.word;
       invert = t.invert;
-      pieces = t.pieces;
+      with_parts = t.with_parts;
       zero = t.zero;
     } };
 }

@@ -28,7 +28,7 @@ text_of b = record {
   whole = false;
   word = false;
   invert = false;
-  pieces = false;
+  with_parts = false;
   zero = false;
 }
 
@@ -37,7 +37,7 @@ abbrev query : ℕ → Search
 query b = search_of (text_of b) (Set (one b) ∷ [])
 
 abbrev parts : ℕ → Search
-parts b = search_of (record (text_of b) { pieces = true }) (Set (one b) ∷ [])
+parts b = search_of (record (text_of b) { with_parts = true }) (Set (one b) ∷ [])
 
 abbrev zeros : ℕ → Search
 zeros b = search_of (record (text_of b) { zero = true }) (Set (one b) ∷ [])

@@ -16,7 +16,7 @@ use Rattle.pg_rows.specs.declared.format.Mode.{Mode}
 use Rattle.pg_rows.specs.Modes.{shows_rows, settles_at_first, is_named, end_row, rows_in}
 use Rattle.pg_rows.proofs.ModeLemmas.{rows_settle_late, end_by_count, end_by_name}
 use Rattle.pg_rows.specs.Output.{name_end, name_mark, name_text, painted, HasRoom, is_below, when, row, file_rows}
-use Rattle.pg_rows.specs.Output.{line_rows, piece_rows, count_row, name_row, is_shown}
+use Rattle.pg_rows.specs.Output.{line_rows, part_rows, count_row, name_row, is_shown}
 use Rattle.pg_rows.specs.Trail.{Trail, step, run, run_rows, run_pieces, keeps, after_kept, after_context}
 use Rattle.pg_rows.specs.Trail.{after_other, kept_rows, pieces_in, trail_of, with_offset}
 use Rattle.pg_rows.specs.Enough.{is_full, is_trailed, lines_suffice}
@@ -116,7 +116,7 @@ module _ (q : Search) (format : Format) where
 
   -- the rows of lines, as the mode has them
   abbrev pub line_part : List ℕ → List (List ℕ) → Bool → List ℕ
-  line_part name ls earlier = cond format.parts (piece_rows q format name ls) (line_rows q format name ls earlier)
+  line_part name ls earlier = cond format.parts (part_rows q format name ls) (line_rows q format name ls earlier)
 
   abbrev rows_of : List ℕ → List (List ℕ) → Bool → Bool → List ℕ
   rows_of name ls ended earlier =
@@ -141,9 +141,9 @@ module _ (q : Search) (format : Format) where
         ∙ append-nil rows)
 
     pieces_settled : (name : List ℕ) → is_full q format ls ≡ true
-        → piece_rows q format name (ls ++ ms) ≡ piece_rows q format name ls
+        → part_rows q format name (ls ++ ms) ≡ part_rows q format name ls
     pieces_settled name full =
-        let rows = piece_rows q format name ls in
+        let rows = part_rows q format name ls in
         pieces_more q format name ls ms t h
         ∙ (ap (λ xs. rows ++ xs) (no_more_pieces name t ms (full_spent ls t h full)) ∙ append-nil rows)
 
@@ -170,8 +170,8 @@ module _ (q : Search) (format : Format) where
     part_settled name earlier full = go format.parts
       where
         go : (b : Bool) → (not b && is_shown q format ls (length ls)) ≡ false
-            → cond b (piece_rows q format name (ls ++ ms)) (line_rows q format name (ls ++ ms) earlier)
-            ≡ cond b (piece_rows q format name ls) (line_rows q format name ls earlier)
+            → cond b (part_rows q format name (ls ++ ms)) (line_rows q format name (ls ++ ms) earlier)
+            ≡ cond b (part_rows q format name ls) (line_rows q format name ls earlier)
         go true e = pieces_settled name full
         go false e = rows_settled name earlier full e
 

@@ -12,7 +12,7 @@ use Rattle.pg_rows.specs.declared.format.Format.{Format}
 use Rattle.pg_rows.specs.Modes.{end_row, is_quiet, shows_rows}
 use Rattle.pg_base.specs.Entries.{Entry, Missed, Read, is_running}
 use Rattle.pg_rows.specs.Output.{is_bad, has_selected, has_separators, is_nothing, row, size_of, status, when}
-use Rattle.pg_rows.specs.Output.{count_row, file_rows, gap_text, line_rows, name_row, output, painted, piece_rows}
+use Rattle.pg_rows.specs.Output.{count_row, file_rows, gap_text, line_rows, name_row, output, painted, part_rows}
 use Rattle.pg_rows.specs.Trail.{Trail, no_lines, step, keeps, after_kept, after_context, after_other, added}
 use Rattle.pg_rows.specs.Trail.{context_rows, gap_row, run_rows, with_offset}
 use Rattle.pg_rows.proofs.FoldLemmas.{rows_more, something, some_append, some_row, trail_is}
@@ -148,7 +148,7 @@ module _ (q : Search) (format : Format) where
 
       rows : Bool → Bool → Bool → List ℕ
       rows shows pieces earlier =
-          cond shows (cond pieces (piece_rows q format name ls) (line_rows q format name ls earlier)) last
+          cond shows (cond pieces (part_rows q format name ls) (line_rows q format name ls earlier)) last
 
       go : (shows pieces : Bool) → rows shows pieces true
           ≡ with_hyphens (shows && (not pieces && has_separators format)) (gap_text format (terminator q))

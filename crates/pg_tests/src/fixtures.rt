@@ -40,7 +40,7 @@ pub(crate) fn text_of<A: Allocator + Copy>(
         whole: false,
         word: false,
         invert: false,
-        pieces: false,
+        with_parts: false,
         zero: false,
     })
 }

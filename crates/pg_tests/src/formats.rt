@@ -126,8 +126,8 @@ fn asked_query(rt: &impl Abort, alloc: Global, field: &str) -> Query
     let (kind, option) = kind_and_option(rt, letters);
     let mut text = text_of(alloc, kind, pattern.as_bytes()).expect(rt, "memory");
     let (parts, colored) = asked_parts(option);
-    text.pieces = parts || colored;
-    text.invert = !text.pieces && is_given(rt, option, b'v');
+    text.with_parts = parts || colored;
+    text.invert = !text.with_parts && is_given(rt, option, b'v');
     compile(alloc, text).expect(rt, "a query")
 }
 

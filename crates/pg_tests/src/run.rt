@@ -147,7 +147,7 @@ fn text_of<A: Allocator + Copy>(
         whole: false,
         word: false,
         invert: has(letters, b'v'),
-        pieces: has(letters, b'o'),
+        with_parts: has(letters, b'o'),
         zero: false,
     })
 }

@@ -14,15 +14,15 @@ returns-else-options-clause-parts g c = λ trees spelled text one chosen.
     let put = part_at c.args.line.start c.args.number in
     let view = c.options.view_is ∙ c.text-options.ensures.text in
     let invert : c.options.inside.invert ≡ q.text.invert = ap (λ (t : SearchText). t.invert) view in
-    let pieces : c.options.inside.pieces ≡ q.text.pieces = ap (λ (t : SearchText). t.pieces) view in
+    let pieces : c.options.inside.with_parts ≡ q.text.with_parts = ap (λ (t : SearchText). t.with_parts) view in
     elim c.else-options.branch [
       | else-options-via-then-options+else-not-options w ↦
           let inverted : c.options.inside.invert ≡ true = w.if-not-options.false in
-          kept_none c.args.found.now.items (map put (parts q text)) q.text.pieces
+          kept_none c.args.found.now.items (map put (parts q text)) q.text.with_parts
           (inr (ap (map put) (no_parts q text (sym invert ∙ inverted) chosen)))
       | else-options-via-else-options w ↦
-          let unasked : c.options.inside.pieces ≡ false = w.if-options.false in
-          kept_none c.args.found.now.items (map put (parts q text)) q.text.pieces (inl (sym pieces ∙ unasked))
+          let unasked : c.options.inside.with_parts ≡ false = w.if-options.false in
+          kept_none c.args.found.now.items (map put (parts q text)) q.text.with_parts (inl (sym pieces ∙ unasked))
     ]
 
 pub push_parts-requires-clause-line : goal.push_parts-requires-clause-line

@@ -41,10 +41,10 @@ returns-in-Behind-clause-hit g c = λ trees spelled.
     let M : Nfa → Type 0 = λ m. IsMachineOf m trees (bounds_of text) in
     let behind = c.in-Behind.ensures trees spelled in
     c.is_some.ensures ∙ piece_tells trees (bounds_of text) c.args.line.now 0 c.in-Behind.place behind.2
-    c.next_piece.result refl (c.next_piece.ensures.next trees (bounds_of text)
+    c.next_part-in-Behind.result refl (c.next_part-in-Behind.ensures.next trees (bounds_of text)
     (subst M (sym c.machine.ensures.machine) machine))
 
-pub next_piece-requires-clause-from_in : goal.next_piece-requires-clause-from_in
-next_piece-requires-clause-from_in g c =
+pub next_part-in-Behind-requires-clause-from_in : goal.next_part-in-Behind-requires-clause-from_in
+next_part-in-Behind-requires-clause-from_in g c =
     let own = c.machine.ensures.compiled in
     (c.in-Behind.ensures own.0 own.1).1

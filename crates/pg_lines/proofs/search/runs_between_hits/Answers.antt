@@ -76,7 +76,7 @@ returns-clause-found g c =
       parts = λ trees spelled.
           let all = lines (terminator_of text) bytes in
           c.new.ensures.items
-          ∙ sym (no_parts text.pieces (no_part (search_of text trees) 0 0 all c.requires.inverted));
+          ∙ sym (no_parts text.with_parts (no_part (search_of text trees) 0 0 all c.requires.inverted));
       lines =
           let own = c.requires.compiled in
           sym (all_lines text own.0 c.requires.inverted bytes kept at seen (passed own.0 own.1) last between.span.0

@@ -29,7 +29,7 @@ upright text plain = ap turned (sym plain)
       whole = text.whole;
       word = text.word;
       invert = invert;
-      pieces = text.pieces;
+      with_parts = text.with_parts;
       zero = text.zero;
     }
 
@@ -111,7 +111,7 @@ loop-line-preserved g c =
           (c.in-Some.ensures.found.first trees spelled) in
           let gathered' = longer.gathered q c.terminator-end.ensures gathered found in
           let one = line_one q bytes runs run gathered line found in
-          let put : List Part = cond text.pieces (map (part_at line.start number) (parts q one.0)) [] in
+          let put : List Part = cond text.with_parts (map (part_at line.start number) (parts q one.0)) [] in
           c.in_ok-push_line_parts.ensures.parts trees spelled one.0 one.2 one.1
           ∙ (ap (λ ps. ps ++ put) (i.parts trees spelled)
           ∙ sym (parts_with_line q bytes runs run gathered line found c.with_line.new.runs.items new gathered'

@@ -1,6 +1,6 @@
 use Rattle.pg_match.specs.Views.{nfa}
 use Rattle.pg_match.proofs.SearchLemmas.{next_from_best}
-use Rattle.pg_match.proofs.automaton.Automaton.next_piece.Goals as goal
+use Rattle.pg_match.proofs.automaton.Automaton.next_part.Goals as goal
 
 pub returns-in-Some-clause-next : goal.returns-in-Some-clause-next
 returns-in-Some-clause-next g c = λ patterns a.
