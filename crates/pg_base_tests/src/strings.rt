@@ -1,5 +1,5 @@
 //! Sets of strings.
-ghost use Rattle.std.specs.Prelude.{◌≤◌, length, IfOk};
+ghost use Rattle.std.specs.Prelude.{◌≤◌, length, IfOk, OnOk};
 ghost use Rattle.std.specs.List.{All};
 
 use crate::rows::{Question, assert_rows, bytes_of};
@@ -9,7 +9,7 @@ use std::alloc::{AllocError, Allocator, Global};
 
 /// What is asked of strings, which `;` parts, and a text; and what a search by hand gives: for each place of the text
 /// the first place at or behind it at which a string stands, or the length of the longest string that stands there; or
-/// whether the text is one of the strings.
+/// whether the text is one of the strings. `##` gives a hundred strings, with two digits each.
 const ROWS: &str = "first ab;abc;bc xxabcxbc => 2 2 2 3 6 6 6 - -
 longest ab;abc;bc xxabcxbc => - - 3 2 - - 2 - -
 first a;ab;abc abcab => 0 3 3 3 - -
@@ -41,7 +41,50 @@ line a;ab;abcdef ab => yes
 line a;ab;abcdef abc => no
 line ba;abcdef ab => no
 line abcdefghij;abcdefgh abcdefghi => no
-line abcdefghij;abcdefgh abcdefghij => yes";
+line abcdefghij;abcdefgh abcdefghij => yes
+first orderkey##;orderkey##ab;k orderkey07abz => 0 5 5 5 5 5 - - - - - - - -
+longest orderkey##;orderkey##ab;orderkey orderkey07abz => 12 - - - - - - - - - - - - -
+longest orderkey##;key zorderkey4 => - - - - - - 3 - - - -
+first orderkey## orderkeyorderkey99 => 8 8 8 8 8 8 8 8 8 - - - - - - - - - -
+line orderkey##;key orderkey41 => yes
+line orderkey##;key orderkey4 => no
+line orderkey##;key key => yes
+line orderkey##;key orderkey411 => no
+line orderkey##;key Orderkey41 => no";
+
+/// Adds a string, unless it is empty.
+fn push<A: Allocator + Copy>(
+    strings: &mut Vec<Vec<u8, A>, A>,
+    string: Vec<u8, A>,
+) -> Result<(), AllocError>
+    requires { All (λ string. 1 ≤ length string.items) strings.old.items }
+    ensures { OnOk result (All (λ string. 1 ≤ length string.items) strings.new.items) }
+{
+    if string.is_empty() {
+        return Ok(());
+    }
+    strings.push(string)?;
+    Ok(())
+}
+
+/// Adds the strings of each two digits between two texts.
+fn push_hundred<A: Allocator + Copy>(
+    alloc: A,
+    strings: &mut Vec<Vec<u8, A>, A>,
+    front: &str,
+    behind: &str,
+) -> Result<(), AllocError>
+    requires { All (λ string. 1 ≤ length string.items) strings.old.items }
+    ensures { OnOk result (All (λ string. 1 ≤ length string.items) strings.new.items) }
+{
+    for number in 0..100u8 {
+        let mut string = Vec::from_slice(alloc, front.as_bytes())?;
+        string.extend_from_slice(&[b'0' + number / 10, b'0' + number % 10])?;
+        string.extend_from_slice(behind.as_bytes())?;
+        push(strings, string)?;
+    }
+    Ok(())
+}
 
 /// The strings that `;` parts, but for empty ones.
 fn strings_of<A: Allocator + Copy>(alloc: A, text: &str) -> Result<Vec<Vec<u8, A>, A>, AllocError>
@@ -49,9 +92,9 @@ fn strings_of<A: Allocator + Copy>(alloc: A, text: &str) -> Result<Vec<Vec<u8, A
 {
     let mut strings = Vec::new(alloc);
     for part in text.split(';') {
-        let string = Vec::from_slice(alloc, part.as_bytes())?;
-        if !string.is_empty() {
-            strings.push(string)?;
+        match part.split_once("##") {
+            Some((front, behind)) => push_hundred(alloc, &mut strings, front, behind)?,
+            None => push(&mut strings, Vec::from_slice(alloc, part.as_bytes())?)?,
         }
     }
     Ok(strings)
