@@ -5,11 +5,12 @@ use Rattle.pg_files.specs.Given.{Given}
 use Rattle.pg_files.specs.declared.disk_store.Source.{Source}
 use Rattle.pg_files.specs.declared.disk_store.Source.TheVariants.{Closed, Standard, Open, Whole}
 
--- what is read: nothing, standard input, or a file
+-- what is read: nothing, standard input, a file, or one that was read ahead
 pub data Opened : Type 0 where
   Nothing : Opened
   StandardInput : Opened
   AFile : Opened
+  AWholeFile : Opened
 
 -- what the files gave, what is open, and the bytes that it is known to have left
 pub record DiskData : Type 0 where
@@ -25,7 +26,7 @@ abbrev pub opened : {I F : Type 0} → Source I F → Opened
 opened Closed = Nothing
 opened (Standard input) = StandardInput
 opened (Open file) = AFile
-opened (Whole file given) = AFile
+opened (Whole file given) = AWholeFile
 
 -- what a source has left, by what its readers have left
 abbrev pub left_of : {I F : Type 0} → (I → Option (List ℕ)) → (F → Option (List ℕ)) → Source I F → Option (List ℕ)

@@ -1,5 +1,5 @@
 //! The system's files.
-ghost use Rattle.std.specs.Prelude.{◌≡◌, ◌≢◌, ◌∷◌, [], length, None, OnOk, IfErr};
+ghost use Rattle.std.specs.Prelude.{◌≡◌, ◌≢◌, ◌⊎◌, ◌∷◌, [], length, None, true, OnOk, IfErr, IsErr, IsOk, codes};
 ghost use Rattle.std.specs.Io.KnownBytes.{ReadConsumes};
 ghost use Rattle.pg_files.specs.Asking.{ReadGives};
 ghost use Rattle.pg_files.specs.Store.{Opens};
@@ -65,8 +65,9 @@ impl<R: Files + Input + Drop> Model for DiskStore<R> {
 
 impl<R: Files + Input + Drop> DiskStore<R> {
     ghost use Rattle.std.specs.Prelude.{Some, OnErr};
-    ghost use Rattle.pg_files.specs.DiskStore.{Nothing, AFile};
+    ghost use Rattle.pg_files.specs.DiskStore.{Nothing, AWholeFile};
     ghost use Rattle.pg_files.specs.Given.{NoFile};
+    ghost use Rattle.pg_base.specs.declared.cause.Cause.TheVariants.{IsOutput};
     ghost use Rattle.pg_files.specs.declared.store.OpenFault.TheVariants.{Refused};
 
     /// No file is open. What standard output goes to is looked at now.
@@ -102,9 +103,10 @@ impl<R: Files + Input + Drop> DiskStore<R> {
     ) -> Result<(), OpenFault>
         requires { file.path.items ≡ path.now }
         ensures opens { Opens spares_output path.now self.old.past self.new.past result }
-        ensures reads { OnOk result (self.new.reads ≡ AFile) }
+        ensures reads { OnOk result (self.new.reads ≡ AWholeFile) }
         ensures left { OnOk result (self.new.left ≡ Some file.bytes.items) }
         ensures closed { OnErr result (self.new.reads ≡ Nothing) }
+        ensures cause { IfErr result (λ fault. (fault ≡ Refused IsOutput) × (spares_output ≡ true)) }
     {
         if spares_output && self.is_output(Some(file.id)) {
             return Err(self.refuse(path, Cause::IsOutput));
@@ -128,8 +130,9 @@ impl<R: Files + Input + Drop> DiskStore<R> {
 }
 
 impl<R: Files + Input + Drop> Store for DiskStore<R> {
-    ghost use Rattle.pg_files.specs.DiskStore.{Nothing, opened_by};
-    ghost use Rattle.pg_files.specs.declared.store.OpenFault.TheVariants.{OutOfMemory};
+    ghost use Rattle.pg_files.specs.DiskStore.{Nothing, AWholeFile, opened_by};
+    ghost use Rattle.pg_files.specs.declared.store.OpenFault.TheVariants.{Refused, OutOfMemory};
+    ghost use Rattle.pg_base.specs.declared.cause.Cause.TheVariants.{CannotOpen, IsOutput};
 
     ghost past = { λ s. s.past };
 
@@ -139,6 +142,10 @@ impl<R: Files + Input + Drop> Store for DiskStore<R> {
         ensures reads { OnOk result (self.new.reads ≡ opened_by path.now) }
         ensures closed { IfErr result (λ fault. fault ≢ OutOfMemory → self.new.reads ≡ Nothing) }
         ensures same { IfErr result (λ fault. fault ≡ OutOfMemory → self.new ≡ self.old) }
+        ensures cause { IfErr result (λ fault. (fault ≡ OutOfMemory) ⊎ ((fault ≡ Refused CannotOpen)
+            ⊎ ((fault ≡ Refused IsOutput) × (spares_output ≡ true)))) }
+        ensures standard { path.now ≡ codes "-"
+            → IfErr result (λ fault. (fault ≡ Refused IsOutput) × (spares_output ≡ true)) }
     {
         if path == "-" {
             let standard = regular_id(fs::metadata(&self.rt, "/dev/stdin"));
@@ -174,6 +181,9 @@ impl<R: Files + Input + Drop> Store for DiskStore<R> {
         ensures given { ReadGives into.new self.old.past self.new.past result }
         ensures size { length into.new ≡ length into.old }
         ensures reads { self.new.reads ≡ self.old.reads }
+        ensures closed { self.old.reads ≡ Nothing → IsErr result }
+        // All of such a file was read before.
+        ensures whole { self.old.reads ≡ AWholeFile → IsOk result }
         // What is known to be left loses exactly the bytes that were given; none come only at its end.
         ensures consumes { ReadConsumes self.old.left self.new.left result into.new }
     {

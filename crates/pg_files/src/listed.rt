@@ -107,9 +107,10 @@ impl<T: FileTree, S: Store + Drop> Drop for Listed<'_, T, S> {
 }
 
 impl<'t, T: FileTree, S: Store + Drop> Listed<'t, T, S> {
-    /// Nothing is looked for in the tree.
+    /// A list over no operands: its first `next` answers `Done`.
     pub fn new(alloc: Global, tree: &'t T, store: S) -> Listed<'t, T, S>
-        ensures fresh { (result.walk.asked.items ≡ []) × (result.done ≡ false) }
+        ensures nothing { result.walk.operands.items ≡ [] }
+        ensures fresh { (result.walk.asked.items ≡ []) × (result.done ≡ false) × (result.broken ≡ false) }
         ensures store { result.store ≡ store }
     {
         let walker = Walker::over_nothing(alloc, tree);
@@ -148,10 +149,12 @@ impl<'t, T: FileTree, S: Store + Drop> Listed<'t, T, S> {
     ) -> Result<(), AllocError>
         ensures walk { OnOk result ((self.new.walk.walker.tree.now ≡ tree.now)
             × (self.new.walk.walker.scope ≡ scope) × (self.new.walk.operands.items ≡ operands.now)) }
-        ensures fresh { OnOk result ((self.new.walk.asked.items ≡ []) × (self.new.done ≡ false)) }
+        ensures fresh { OnOk result ((self.new.walk.asked.items ≡ []) × (self.new.done ≡ false)
+            × (self.new.broken ≡ false)) }
         ensures spares { OnOk result (self.new.spares_output ≡ spares_output) }
         ensures named { OnOk result (self.new.input_name ≡ input_name) }
         ensures store { self.new.store ≡ self.old.store }
+        ensures err { OnErr result (self.new ≡ self.old) }
     {
         let walk = Walked::new(alloc, tree, operands, scope)?;
         what_is_given(&walk.walker);

@@ -1,6 +1,6 @@
 //! Files in memory, for tests.
 ghost use Rattle.std.specs.Prelude.{◌≡◌, ◌≤◌, ◌+◌, ◌^◌, ◌⊎◌, ◌++◌, ◌∷◌, [], map, min, length, is_some, option_and_then};
-ghost use Rattle.std.specs.Prelude.{option_map, slice_get, IfSome, OnOk, OnErr};
+ghost use Rattle.std.specs.Prelude.{ℕ, ◌<◌, option_map, slice_get, Some, IfSome, OnOk, OnErr};
 ghost use Rattle.pg_files.specs.Asking.{ReadGives};
 ghost use Rattle.pg_files.specs.Store.{Opens};
 
@@ -49,6 +49,7 @@ pub struct MemStore {
     read_limit: usize,
     past: StorePast,
     ghost some_bytes: { 1 ≤ read_limit },
+    ghost is_open: { (place : ℕ) → «open» ≡ Some place → place < length files.items },
 }
 
 impl Drop for MemStore {
@@ -65,13 +66,13 @@ impl Drop for MemStore {
 }
 
 impl MemStore {
-    ghost use Rattle.std.specs.Prelude.{Some};
-    ghost use Rattle.pg_files.specs.MemStore.{Content, stored, files, left, left_of, file_at};
+    ghost use Rattle.pg_files.specs.MemStore.{stored, files, left, left_of, file_at};
 
     /// A store without files, in which no file can be opened. A read gives as much as it can.
     pub fn new(alloc: Global) -> MemStore
         ensures files { files result ≡ [] }
         ensures past { result.past ≡ [] }
+        ensures limit { result.read_limit ≡ usize.MAX }
     {
         MemStore {
             alloc,
@@ -93,7 +94,7 @@ impl MemStore {
         ensures ok { OnOk result
             (files self.new ≡ files self.old ++ (path.now, record { bytes = bytes.now; ending = ending }) ∷ []) }
         ensures err { OnErr result (files self.new ≡ files self.old) }
-        ensures left { (content : Content) → left self.old ≡ Some content → left self.new ≡ Some content }
+        ensures left { left self.new ≡ left self.old }
         ensures past { self.new.past ≡ self.old.past }
         ensures limit { self.new.read_limit ≡ self.old.read_limit }
     {
@@ -111,6 +112,7 @@ impl MemStore {
         requires { 1 ≤ read_limit }
         ensures files { files self.new ≡ files self.old }
         ensures left { left self.new ≡ left self.old }
+        ensures past { self.new.past ≡ self.old.past }
         ensures limit { self.new.read_limit ≡ read_limit }
     {
         self.read_limit = read_limit;
@@ -161,6 +163,7 @@ impl Store for MemStore {
             × (result ≡ Err (Refused CannotOpen))) }
         ensures left { left self.new ≡ file_at (files self.old) path.now }
         ensures files { files self.new ≡ files self.old }
+        ensures limit { self.new.read_limit ≡ self.old.read_limit }
     {
         self.at = 0;
         self.open = self.place_of(path);
@@ -182,6 +185,7 @@ impl Store for MemStore {
         ensures takes { Takes (left self.old) (left self.new)
             (min (length into.old) self.old.read_limit) into.new result }
         ensures files { files self.new ≡ files self.old }
+        ensures limit { self.new.read_limit ≡ self.old.read_limit }
     {
         let Some((rest, ending)) = MemStore::left_of(&self.files, self.open, self.at) else {
             self.past.end(true);

@@ -27,8 +27,8 @@ pub trait Store {
     ///
     /// # Errors
     ///
-    /// `Refused` where the path gives no file, with its cause, and `OutOfMemory` where a request for
-    /// memory was refused. Then nothing has changed.
+    /// `Refused` where the path gives no file, with its cause; then none is open. `OutOfMemory` where a
+    /// request for memory was refused; then nothing has changed.
     fn open(&mut self, path: &str, spares_output: bool) -> Result<(), OpenFault>
         ensures { Opens spares_output path.now (past self.old) (past self.new) result };
 
@@ -42,7 +42,8 @@ pub trait Store {
     ///
     /// # Errors
     ///
-    /// `ReadFault` where the read failed, also where it was interrupted, and where no file is open.
+    /// `ReadFault` where the read failed, also where it was interrupted. A [`DiskStore`](crate::DiskStore)
+    /// and a [`MemStore`](crate::MemStore) answer so too where no file is open.
     fn read(&mut self, into: &mut [u8]) -> Result<usize, ReadFault>
         requires { 0 < length into.old }
         ensures given { ReadGives into.new (past self.old) (past self.new) result }

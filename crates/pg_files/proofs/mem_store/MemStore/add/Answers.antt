@@ -30,4 +30,4 @@ returns-clause-err c = tt
 pub returns-clause-left : goal.returns-clause-left
 returns-clause-left c =
     let before = c.args.self.now in
-    λ content h. left_added before.files.items _ _ c.in_ok-push.ensures.items before.open before.at content h
+    left_added before.files.items _ _ c.in_ok-push.ensures.items before.open before.at before.is_open
