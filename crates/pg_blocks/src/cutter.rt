@@ -384,7 +384,7 @@ impl<A: Allocator + Copy> Cutter<A> {
     }
 
     /// Takes the next bytes of the file. It makes all requests for memory that `take` and `finish`
-    /// would need. An `Err` changes nothing.
+    /// would need. An `Err` changes nothing but what the room holds.
     ///
     /// `FileTooLong` comes where more than 2^62 bytes would have been fed, and else `LineTooLong`
     /// where a line of the bytes so far would be too long. `OutOfMemory` comes where neither holds
@@ -554,6 +554,7 @@ impl<A: Allocator + Copy> Cutter<A> {
         ensures none { IfNone result (IsDrained self.new × ((past : Fed) → IsCutterAfter self.old past
             → HasNoneLeft past)) }
         ensures fewer { IfSome result (λ _. waiting self.new < waiting self.old) }
+        ensures room { room_of self.new ≡ room_of self.old }
     {
         self.ready.pop_front()
     }

@@ -1,5 +1,7 @@
 -- Files of globs, as GNU grep's --exclude-from reads them: one glob a line.
-use Rattle.std.specs.Prelude.{ℕ, ◌==◌, ◌&&◌, ◌||◌, Bool, false, nat_lt, if◌then◌else◌, List, [], ◌∷◌, ◌++◌}
+use Rattle.std.specs.Prelude.{◌≡◌, ℕ, ◌==◌, ◌&&◌, ◌||◌, Bool, false, nat_lt, if◌then◌else◌, List, [], ◌∷◌, ◌++◌}
+use Rattle.std.specs.List.{flat_map}
+use Rattle.pg_bytes.specs.Lines.{lines}
 use Rattle.pg_glob.specs.Brackets.{Text}
 use Rattle.pg_glob.specs.Filters.{Rule}
 use Rattle.pg_glob.specs.Globs.{pieces_of}
@@ -23,12 +25,13 @@ abbrev pub rule_in : Text → List Rule
 rule_in [] = []
 rule_in (x ∷ t) = record { keeps = false; glob = pieces_of (x ∷ t) } ∷ []
 
--- the rules of lines, which newlines (10) separate, where these bytes stand before the first line
-abbrev pub rules_behind : Text → Text → List Rule
-rules_behind line [] = rule_in (without_blanks line)
-rules_behind line (x ∷ t) =
-    if x == 10 then rule_in (without_blanks line) ++ rules_behind [] t else rules_behind (line ++ x ∷ []) t
-
--- what the globs of a file leave out, in its order
+-- what the globs of a file leave out, in its order; newlines (10) end its lines
 abbrev pub rules_in : Text → List Rule
-rules_in text = rules_behind [] text
+rules_in text = flat_map (λ line. rule_in (without_blanks line)) (lines 10 text)
+
+-- the first ones of these rules were added, and nothing else
+pub record AddsFirst (all old new : List Rule) : Type 0 where
+  pub front : List Rule
+  pub rest : List Rule
+  pub whole : all ≡ front ++ rest
+  pub added : new ≡ old ++ front

@@ -1,6 +1,6 @@
 //! Files of globs.
-ghost use Rattle.std.specs.Prelude.{◌≡◌, ◌++◌, OnOk};
-ghost use Rattle.pg_glob.specs.GlobFiles.{is_blank, rule_in, rules_in, without_blanks};
+ghost use Rattle.std.specs.Prelude.{◌≡◌, ◌++◌, OnOk, OnErr};
+ghost use Rattle.pg_glob.specs.GlobFiles.{is_blank, rule_in, rules_in, without_blanks, AddsFirst};
 ghost use Rattle.pg_glob.specs.Views.{rules};
 
 use crate::filter::Filter;
@@ -18,7 +18,8 @@ impl<A: Allocator> Filter<A> {
     pub fn push_lines(&mut self, alloc: A, text: &[u8]) -> Result<(), AllocError>
     where
         A: Copy,
-        ensures { OnOk result (rules self.new ≡ rules self.old ++ rules_in text.now) }
+        ensures ok { OnOk result (rules self.new ≡ rules self.old ++ rules_in text.now) }
+        ensures err { OnErr result (AddsFirst (rules_in text.now) (rules self.old) (rules self.new)) }
     {
         let mut line = Vec::new(alloc);
         let mut left = text;
@@ -35,9 +36,10 @@ impl<A: Allocator> Filter<A> {
     }
 }
 
-/// Adds the rule of a line, if it has a glob.
+/// Adds the rule of a line, if it has a glob. An `Err` changes nothing.
 fn push_line<A: Allocator>(alloc: A, filter: &mut Filter<A>, line: &[u8]) -> Result<(), AllocError>
-    ensures { OnOk result (rules filter.new ≡ rules filter.old ++ rule_in (without_blanks line.now)) }
+    ensures ok { OnOk result (rules filter.new ≡ rules filter.old ++ rule_in (without_blanks line.now)) }
+    ensures err { OnErr result (rules filter.new ≡ rules filter.old) }
 {
     let text = without_blanks(line);
     if text.is_empty() {

@@ -12,7 +12,8 @@ use Rattle.pg_blocks.specs.declared.cutter.CutFault.{CutFault}
 use Rattle.pg_blocks.specs.declared.cutter.CutFault.TheVariants.{OutOfMemory, LineTooLong, FileTooLong}
 use Rattle.pg_files.specs.Given.{Given, File, FilesPast, gave_bytes, gave_end, newest_name}
 use Rattle.pg_reader.specs.Lengths.{IsTooLong}
-use Rattle.pg_reader.specs.Reads.{CutCause, FedMore, HasFed, HasReadOn, IsLost, OnlyReadsOn, ending_after}
+use Rattle.pg_reader.specs.Reads.{CutCause, FedMore, FeedsAllOrNone, HasFed, HasReadOn, IsLost, OnlyReadsOn}
+use Rattle.pg_reader.specs.Reads.{ending_after}
 use Rattle.pg_reader.specs.declared.file_reader.FileReader.{FileReader}
 use Rattle.pg_reader.specs.declared.file_reader.ReadOutcome.{ReadOutcome}
 use Rattle.pg_reader.specs.declared.file_reader.ReadOutcome.TheVariants.{More, Refused}
@@ -127,6 +128,20 @@ module _ {A : Type 0} {reader : FileReader A} {fed : Fed} {lost : List ℕ} {giv
       (sym came)))
       (subst L (sym came) (long_cause piece cut line file))
 
+  -- then nothing of it was
+  none_cut : (reader' : FileReader A) (piece : List ℕ) (cut : CutFault) → reader'.came ≡ Refused cut
+      → IsCutterAfter reader'.cutter fed → (cut ≡ LineTooLong → HasLongLine (fed_after fed piece))
+      → (cut ≡ FileTooLong → 2 ^ 62 < length fed.bytes + length piece)
+      → HasFed reader' fed piece (gave_bytes piece given)
+  none_cut reader' piece cut came stands line file =
+      let L : ReadOutcome → Type 0 = λ came. IsLost came fed.end fed.longest (gave_bytes piece given) piece in
+      record {
+        cut = stands;
+        newest = as_newest (ap (gave_bytes piece) open_yet
+            ∙ ap (λ came. File (newest_name given) (fed.bytes ++ piece) (ending_after came) ∷ drop 1 given) (sym came));
+        cause = subst L (sym came) (long_cause piece cut line file);
+      }
+
   -- nothing more came of it
   no_more : (reader' : FileReader A) (given' : List Given) (ending : Ending) → ending_after reader'.came ≡ ending
       → given' ≡ File (newest_name given) fed.bytes ending ∷ drop 1 given
@@ -154,6 +169,21 @@ module _ {A : Type 0} {reader : FileReader A} {fed : Fed} {lost : List ℕ} {giv
       → FedMore reader fed given reader' (gave_end failed given)
   file_stopped reader' failed stops none stands =
       no_more reader' (gave_end failed given) _ stops (ap (gave_end failed) open_yet) none stands
+
+-- what one read gave and the cutter didn't take is not fed in part
+pub refused_whole : {A : Type 0} {reader reader' : FileReader A} {given given' : List Given} → reader.came ≡ More
+    → (piece : List ℕ) (cut : CutFault) → given' ≡ gave_bytes piece given → reader'.came ≡ Refused cut
+    → FedStays reader reader'
+    → ((fed : Fed) → IsCutterAfter reader.cutter fed → cut ≡ LineTooLong → HasLongLine (fed_after fed piece))
+    → ((fed : Fed) → IsCutterAfter reader.cutter fed → cut ≡ FileTooLong
+    → 2 ^ 62 < length fed.bytes + length piece)
+    → FeedsAllOrNone reader given reader' given'
+refused_whole {reader' = reader'} more piece cut is came stays line file = λ fed lost fault h refused.
+    let P : List Given → Type 0 = λ gs. HasFed reader' fed piece gs in (
+      piece,
+      subst P (sym is) (none_cut h more reader' piece cut came (stays fed h.cut) (line fed h.cut)
+          (file fed h.cut)),
+    )
 
 -- What is listed, and what was given before.
 

@@ -1,7 +1,7 @@
 -- How far a reader has come in the open file.
 use Rattle.std.specs.Prelude.{◌≡◌, ◌⊎◌, ℕ, List, [], ◌∷◌, ◌++◌, drop}
 use Rattle.pg_base.specs.Entries.{Ending, Ended, Failed, Left}
-use Rattle.pg_blocks.specs.Cutter.{Fed, IsCutterAfter, fed as fed_after}
+use Rattle.pg_blocks.specs.Cutter.{Fed, IsCutterAfter, fed as fed_after, unfed}
 use Rattle.pg_blocks.specs.declared.cutter.CutFault.{CutFault}
 use Rattle.pg_blocks.specs.declared.cutter.CutFault.TheVariants.{OutOfMemory, LineTooLong, FileTooLong}
 use Rattle.pg_files.specs.Given.{Given, File, FilesPast, newest_name}
@@ -40,7 +40,11 @@ pub record HasFed {A : Type 0} (reader : FileReader A) (fed : Fed) (lost : List 
 abbrev pub HasFedSome : {A : Type 0} → FileReader A → List Given → Type 0
 HasFedSome reader given = (fed : Fed) × (lost : List ℕ) × HasFed reader fed lost given
 
--- and it may be read further
+-- the reader has no file: its cutter is one that nothing is fed to
+abbrev pub HasNoFile : {A : Type 0} → FileReader A → Type 0
+HasNoFile reader = IsCutterAfter reader.cutter (unfed 0 0 1 1)
+
+-- a file is open, and it may be read further
 pub record MayBeRead {A : Type 0} (reader : FileReader A) (given : List Given) : Type 0 where
   pub more : reader.came ≡ More
   pub fed : HasFedSome reader given
@@ -59,6 +63,12 @@ pub record FedMore {A : Type 0} (reader : FileReader A) (fed : Fed) (given : Lis
   pub feeds : HasFed reader' (fed_after fed more) lost given'
   pub name : newest_name given' ≡ newest_name given
   pub stops : (reader.came ≡ More) ⊎ ((reader'.came ≡ reader.came) × (given' ≡ given))
+
+-- Where the cutter didn't take what a read gave, it was fed none of it.
+abbrev pub FeedsAllOrNone : {A : Type 0} → FileReader A → List Given → FileReader A → List Given → Type 0
+FeedsAllOrNone reader given reader' given' =
+    (fed : Fed) (lost : List ℕ) (fault : CutFault) → HasFed reader fed lost given → reader'.came ≡ Refused fault
+    → (lost' : List ℕ) × HasFed reader' fed lost' given'
 
 -- The reader read on: whatever was fed before, more of the file was.
 pub record HasReadOn {A F L : Type 0} (past : F → FilesPast) (list : F → L) (reader : FileReader A) (files : F)

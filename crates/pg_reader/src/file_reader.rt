@@ -1,7 +1,7 @@
 //! The reader of the open file.
 ghost use Rattle.std.specs.Prelude.{◌≡◌, ◌≢◌, ◌<◌, vec_len, length, IfSome, IfNone, OnOk};
 ghost use Rattle.pg_blocks.specs.Cutter.{IsCutterAfter, Fed, IsDrained, IsNextBlock, AreAllBlocks};
-ghost use Rattle.pg_blocks.specs.Cutter.{handed, handed_early, HasLinesLeft, KeepsCutter, room_of};
+ghost use Rattle.pg_blocks.specs.Cutter.{handed, handed_early, HasLinesLeft, KeepsCutter, room_of, unfed};
 
 use crate::reader::Reader;
 use pg_blocks::{Block, CutFault, Cutter};
@@ -64,7 +64,9 @@ impl<A: Allocator + Copy> Drop for FileReader<A> {
 }
 
 /// A cutter that nothing is fed to.
-fn no_cutter<A: Allocator + Copy>(alloc: A) -> Cutter<A> {
+fn no_cutter<A: Allocator + Copy>(alloc: A) -> Cutter<A>
+    ensures { IsCutterAfter result (unfed 0 0 1 1) }
+{
     Cutter::new(alloc, 0, 1, 1, 0)
 }
 
@@ -78,7 +80,7 @@ fn buffer_of<A: Allocator + Copy>(alloc: A, len: usize) -> Vec<u8, A> {
 }
 
 impl<A: Allocator + Copy> FileReader<A> {
-    ghost use Rattle.pg_reader.specs.Reads.{HasReadOn, MayBeRead};
+    ghost use Rattle.pg_reader.specs.Reads.{FeedsAllOrNone, HasNoFile, HasReadOn, MayBeRead};
     ghost use Rattle.pg_reader.specs.declared.file_reader.ReadOutcome.TheVariants.{More, End};
 
     /// A reader that has no file yet, for blocks of `block` bytes. The first two reads of each file ask for 4,096 bytes
@@ -155,6 +157,7 @@ impl<A: Allocator + Copy> FileReader<A> {
         requires reading { MayBeRead self.old (F.past files.old).given }
         ensures reads { HasReadOn F.past F.list self.old files.old self.new files.new }
         ensures goes { self.new.came ≡ More → (F.past files.new).given ≢ (F.past files.old).given }
+        ensures refused { FeedsAllOrNone self.old (F.past files.old).given self.new (F.past files.new).given }
     {
         let Ok(len) = files.read(self.buffer.as_mut_slice()) else {
             self.came = ReadOutcome::Failure;
@@ -174,6 +177,7 @@ impl<A: Allocator + Copy> FileReader<A> {
         requires { MayBeRead self.old (F.past files.old).given }
         ensures reads { HasReadOn F.past F.list self.old files.old self.new files.new }
         ensures goes { self.new.came ≡ More → (F.past files.new).given ≢ (F.past files.old).given }
+        ensures refused { FeedsAllOrNone self.old (F.past files.old).given self.new (F.past files.new).given }
     {
         if self.make_room().is_err() {
             self.came = ReadOutcome::Refused(CutFault::OutOfMemory);
@@ -202,6 +206,7 @@ impl<A: Allocator + Copy> FileReader<A> {
         requires { MayBeRead self.old (F.past files.old).given }
         ensures reads { HasReadOn F.past F.list self.old files.old self.new files.new }
         ensures goes { self.new.came ≡ More → (F.past files.new).given ≢ (F.past files.old).given }
+        ensures refused { FeedsAllOrNone self.old (F.past files.old).given self.new (F.past files.new).given }
     {
         if self.copied_reads == 0 || self.buffer.is_empty() {
             self.read_in_place(files);
@@ -244,7 +249,9 @@ impl<A: Allocator + Copy> FileReader<A> {
     /// reader has no file then until another is opened.
     pub fn finish(&mut self) -> Option<Block<A>>
         requires { IsDrained self.old.cutter }
-        ensures { (past : Fed) → IsCutterAfter self.old.cutter past → AreAllBlocks (handed past result) }
+        ensures all { (past : Fed) → IsCutterAfter self.old.cutter past → AreAllBlocks (handed past result) }
+        ensures none { HasNoFile self.new }
+        ensures came { self.new.came ≡ self.old.came }
     {
         let cutter = mem::replace(&mut self.cutter, no_cutter(self.alloc));
         cutter.finish()
@@ -258,8 +265,11 @@ impl<A: Allocator + Copy, F: Files> Reader<F> for FileReader<A> {
 
     ghost reaches = { λ reader files reader' files'. HasReadOn F.past F.list reader files reader' files' };
 
+    ghost left = { λ reader. reader.ahead };
+
     fn step(&mut self, files: &mut F) -> bool {
-        if self.ahead == 0 || self.came != ReadOutcome::More {
+        let ahead = self.ahead;
+        if ahead == 0 || self.came != ReadOutcome::More {
             return false;
         }
         if self.make_room().is_err() {
@@ -267,8 +277,8 @@ impl<A: Allocator + Copy, F: Files> Reader<F> for FileReader<A> {
             self.ahead = 0;
             return false;
         }
-        self.ahead = self.ahead.saturating_sub(1);
         self.read(files);
+        self.ahead = ahead - 1;
         true
     }
 }

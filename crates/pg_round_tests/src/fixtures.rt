@@ -313,6 +313,8 @@ impl<'g> Reader<u32> for Stepping<'g> {
 
     ghost reaches = { λ reader steps reader' steps'. reader'.left + steps' ≡ reader.left + steps };
 
+    ghost left = { λ reader. reader.left };
+
     fn step(&mut self, steps: &mut u32) -> bool {
         self.asked = self.asked.saturating_add(1);
         if self.left == 0 || !self.gate.begun.load(Ordering::SeqCst) {

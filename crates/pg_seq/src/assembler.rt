@@ -1,5 +1,5 @@
 //! How results are put in order, and what is known of it.
-ghost use Rattle.std.specs.Prelude.{◌≡◌, ◌↔◌, true, false, IsTrue, IfOk, ◌&&◌, if◌then◌else◌};
+ghost use Rattle.std.specs.Prelude.{◌≡◌, ◌↔◌, true, false, IsTrue, IfOk, IsOk, ◌&&◌, if◌then◌else◌};
 ghost use Rattle.std.specs.Arc.{arc_value};
 ghost use Rattle.pg_rows.specs.Modes.{is_quiet};
 
@@ -140,10 +140,13 @@ impl<A: Allocator> Assembler<A> {
     }
 
     /// Notes a name that could not be opened or listed.
+    ///
+    /// Always `Ok`: nothing is kept, and no memory asked for.
     pub(crate) fn miss(&mut self, name: &[u8]) -> Result<(), AllocError>
         requires { MayPlan self.old (Misses name.now) }
         ensures ok { PlansAtOk self.old self.new (Misses name.now) result }
         ensures err { StaysAtErr self.old self.new result }
+        ensures takes { IsOk result }
     {
         let _ = name;
         self.bad = true;

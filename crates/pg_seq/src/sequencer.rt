@@ -1,5 +1,5 @@
 //! What a run writes, from results that arrive in any order.
-ghost use Rattle.std.specs.Prelude.{◌≡◌, ◌↔◌, IsTrue, IfOk};
+ghost use Rattle.std.specs.Prelude.{◌≡◌, ◌↔◌, IsTrue, IfOk, IsOk};
 ghost use Rattle.std.specs.Arc.{arc_value};
 
 use crate::assembler::Assembler;
@@ -104,11 +104,12 @@ impl<A: Allocator> Sequencer<A> {
 
     /// Notes a name that could not be opened or listed. No file is open.
     ///
-    /// A refused request for memory is the only error, and changes nothing.
+    /// Always `Ok`: nothing is kept, and no memory asked for.
     pub fn miss(&mut self, name: &[u8]) -> Result<(), AllocError>
         requires { MayPlan self.old (Misses name.now) }
         ensures ok { PlansAtOk self.old self.new (Misses name.now) result }
         ensures err { StaysAtErr self.old self.new result }
+        ensures takes { IsOk result }
     {
         self.assembler.miss(name)
     }

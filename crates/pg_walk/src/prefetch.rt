@@ -9,12 +9,12 @@ use std::thread::Threads;
 
 /// What another thread may do for a walk while it goes on.
 pub trait Helper: Drop {
-    /// Does it. This may take as long as the process lives.
+    /// Runs the helper. It may not return before the process ends.
     fn help(self);
 }
 
-/// A tree that may look at entries, and read what is there, before their turn comes. What a tree answers that tells its
-/// answers doesn't hang on it.
+/// A tree that may look at entries, and read what is there, before their turn comes. Prefetching never changes what a
+/// tree answers that tells its answers.
 pub trait Prefetch: FileTree {
     /// What another thread may do for a walk.
     type Helper: Helper + 'static;

@@ -9,3 +9,7 @@ read_copied-requires-clause-reading g c =
 
 pub returns-clause-reads : goal.returns-clause-reads
 returns-clause-reads g c = reads_further (has_stayed _ (λ fed stands. stands) refl) c.read_copied.ensures.reads
+
+pub returns-clause-refused : goal.returns-clause-refused
+returns-clause-refused g c = λ fed lost fault h refused.
+    c.read_copied.ensures.refused fed lost fault (same_fed h _ h.cut refl) refused

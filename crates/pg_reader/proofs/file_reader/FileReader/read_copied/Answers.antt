@@ -2,7 +2,7 @@ use Rattle.std.proofs.Common.{◌≡◌, ◌∙◌, ℕ, List, ◌++◌, Err, tr
 use Rattle.std.proofs.Math.Seq.{take-append_seam}
 use Rattle.pg_files.specs.Given.{gave_bytes}
 use Rattle.pg_reader.proofs.GivenLemmas.{read_some, read_none, read_grows}
-use Rattle.pg_reader.proofs.ReadLemmas.{read_stopped, read_cut, read_refused}
+use Rattle.pg_reader.proofs.ReadLemmas.{read_stopped, read_cut, read_refused, refused_whole}
 use Rattle.pg_reader.proofs.file_reader.FileReader.read_copied.Goals as goal
 
 -- a text that fills a buffer is all that the buffer holds
@@ -31,6 +31,19 @@ returns-in-Err-clause-reads g c =
     let whole = written_whole _ c.read.new.into _ (e.size ∙ c.as_mut_slice.ensures.len) in
     read_refused {past = g.F.Files.past} {list = g.F.Files.list} c.requires.reading.more e.done e.same_list
     (take c.in-Ok.len c.deref.result.now) c.in-Err.why
+    (e.given.1 ∙ (read_some c.read.new.into c.in-Ok.len given c.if-len-eq0.false
+    ∙ ap (λ xs. gave_bytes (take c.in-Ok.len xs) given) (sym (c.deref.ensures.value ∙ whole)))) refl
+    (λ fed stands. err.err fed stands)
+    (λ fed stands is. ((err.line fed stands).0 (ap Err is)).1)
+    (λ fed stands is. (err.file fed stands).0 (ap Err is))
+
+pub returns-in-Err-clause-refused : goal.returns-in-Err-clause-refused
+returns-in-Err-clause-refused g c =
+    let e = c.in-Ok.ensures in
+    let given = (g.F.Files.past c.args.files.now).given in
+    let err = c.in-Err.ensures in
+    let whole = written_whole _ c.read.new.into _ (e.size ∙ c.as_mut_slice.ensures.len) in
+    refused_whole c.requires.reading.more (take c.in-Ok.len c.deref.result.now) c.in-Err.why
     (e.given.1 ∙ (read_some c.read.new.into c.in-Ok.len given c.if-len-eq0.false
     ∙ ap (λ xs. gave_bytes (take c.in-Ok.len xs) given) (sym (c.deref.ensures.value ∙ whole)))) refl
     (λ fed stands. err.err fed stands)

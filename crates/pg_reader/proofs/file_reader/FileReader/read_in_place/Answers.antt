@@ -4,7 +4,7 @@ use Rattle.pg_blocks.specs.Lending.{with_room}
 use Rattle.pg_blocks.proofs.RoomLemmas.{written_room}
 use Rattle.pg_files.specs.Given.{gave_bytes}
 use Rattle.pg_reader.proofs.GivenLemmas.{read_some, read_none, read_grows}
-use Rattle.pg_reader.proofs.ReadLemmas.{read_stopped, read_cut, read_refused, read_unread}
+use Rattle.pg_reader.proofs.ReadLemmas.{read_stopped, read_cut, read_refused, read_unread, refused_whole}
 use Rattle.pg_reader.proofs.file_reader.FileReader.read_in_place.Goals as goal
 
 pub returns-then-is_err-clause-reads : goal.returns-then-is_err-clause-reads
@@ -42,6 +42,22 @@ returns-in-Err-clause-reads g c =
     let keeps = c.make_room.ensures.keeps in
     read_refused {past = g.F.Files.past} {list = g.F.Files.list} c.requires.more e.done e.same_list
     (take c.in-Ok.count (room_of (with_room made c.read.new.into))) c.in-Err.fault
+    (e.given.1 ∙ read_some c.read.new.into c.in-Ok.count given c.if-count-eq0.false
+    ∙ ap (λ xs. gave_bytes (take c.in-Ok.count xs) given) (sym lent.1)) refl
+    (λ fed stands. err.err fed (lent.0.stands fed (keeps.stands fed stands)))
+    (λ fed stands is. ((err.line fed (lent.0.stands fed (keeps.stands fed stands))).0 (ap Err is)).1)
+    (λ fed stands is. (err.file fed (lent.0.stands fed (keeps.stands fed stands))).0 (ap Err is))
+
+pub returns-in-Err-clause-refused : goal.returns-in-Err-clause-refused
+returns-in-Err-clause-refused g c =
+    let e = c.in-Ok.ensures in
+    let given = (g.F.Files.past c.args.files.now).given in
+    let made = c.make_room.new.self.cutter in
+    let fits : length c.read.new.into ≡ length (room_of made) = e.size ∙ ap length c.room.ensures.value in
+    let lent = written_room made c.read.new.into fits in
+    let err = c.in-Err.ensures in
+    let keeps = c.make_room.ensures.keeps in
+    refused_whole c.requires.more (take c.in-Ok.count (room_of (with_room made c.read.new.into))) c.in-Err.fault
     (e.given.1 ∙ read_some c.read.new.into c.in-Ok.count given c.if-count-eq0.false
     ∙ ap (λ xs. gave_bytes (take c.in-Ok.count xs) given) (sym lent.1)) refl
     (λ fed stands. err.err fed (lent.0.stands fed (keeps.stands fed stands)))
