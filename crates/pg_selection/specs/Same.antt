@@ -76,7 +76,8 @@ text_with a b kind lists fold whole word invert with_parts zero =
       with_parts = a.with_parts;
       zero = a.zero;
     } in
-    let W : Bool → SearchText = λ x. record b { word = x; invert = a.invert; with_parts = a.with_parts; zero = a.zero } in
+    let W : Bool → SearchText =
+    λ x. record b { word = x; invert = a.invert; with_parts = a.with_parts; zero = a.zero } in
     let I : Bool → SearchText = λ x. record b { invert = x; with_parts = a.with_parts; zero = a.zero } in
     let P : Bool → SearchText = λ x. record b { with_parts = x; zero = a.zero } in
     let Z : Bool → SearchText = λ x. record b { zero = x } in

@@ -95,13 +95,6 @@ text_stands strings bytes text place len b is size fits among = (
       among.1 (one.0, one.2, get_or_default strings one.0 text one.1 one.2 ∙ (one.3 ∙ same)),
 )
 
--- where there is no room for this length, no string of it stands
-pub no_room : (strings : List (List ℕ)) (bytes : List ℕ) (place len : ℕ) → length bytes - place < len
-    → place ≤ length bytes → StandsSo strings bytes place len → ⊥
-no_room strings bytes place len less within one =
-    let fits = one.4.0.fits in
-    omega (arith, less, within, fits, one.4.1)
-
 -- No string of these lengths stands at a place.
 abbrev pub NoneOf : List (List ℕ) → List ℕ → ℕ → List ℕ → ℕ → Type 0
 NoneOf strings bytes place lengths count = (i : ℕ) → i < count
