@@ -145,6 +145,14 @@ def cases(folder, megabytes):
     hard += [(name, options) for name in ("mixed", "short", "alike") for options in ("-c", "-o", "-cw")]
     for name, options in hard:
         yield Case(["-F", options, "-f", name], "prose", ["-F", options, "-f", name])
+    write(folder / "ids", "".join(f"{texts.number(at)}\n" for at in range(5_000)).encode())
+    write(folder / "ids-and-foo", b"foo\n" + (folder / "ids").read_bytes())
+    write(folder / "numbers", texts.numbers(5_000, 5))
+    write(folder / "orders", texts.orders(5_000, 20))
+    for name in ("ids", "ids-and-foo"):
+        for text in ("numbers", "orders"):
+            for options in LISTS:
+                yield Case(["-F", options, "-f", name], text, ["-F", options, "-f", name])
     write(folder / "letters", b"a" * 20_000 + b"\n")
     yield from split("-oE a*b|a", "letters")
     write(folder / "log", texts.log(20))

@@ -57,6 +57,30 @@ def alike(words, count):
     return [words[0][:3] + word[-4:] + "Z" for word in words[:count]]
 
 
+def number(at):
+    """One of many names that begin alike."""
+    return f"order-{at:06}"
+
+
+def numbers(count, megabytes):
+    """Lines of such a number each, of which this many are on a list and three times as many are not."""
+    chance, lines = random.Random(13), []
+    while 13 * len(lines) < megabytes * MEGABYTE:
+        lines.append(number(chance.randint(0, 4 * count - 1)))
+    return ("\n".join(lines) + "\n").encode()
+
+
+def orders(count, megabytes):
+    """Lines of a log, each with such a number, of which one in twenty is on a list."""
+    chance, lines, size = random.Random(17), [], 0
+    while size < megabytes * MEGABYTE:
+        seconds, took = chance.randint(0, 59), chance.randint(1, 999)
+        line = f"2026-11-28 12:00:{seconds:02} INFO {number(chance.randint(0, 20 * count - 1))} done in {took} ms"
+        lines.append(line)
+        size += len(line) + 1
+    return ("\n".join(lines) + "\n").encode()
+
+
 def log(megabytes):
     """Lines of a web server's log, with addresses, methods and identifiers."""
     chance, lines, size = random.Random(5), [], 0

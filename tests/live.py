@@ -133,6 +133,13 @@ CASES = [
         status=2,
         ways=(TERMINAL,),
     ),
+    # The same where blocks wait for a round, as they do for an expression without literals.
+    Case(
+        "-H -E [^y]+ first missing other IN",
+        ((None, "first:x in first", "..missing..", "other:x in other"), ("x1", "IN:x1")),
+        status=2,
+        ways=(TERMINAL,),
+    ),
 ]
 
 # Those that are run once more while each program is stopped and goes on.
