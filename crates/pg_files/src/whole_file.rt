@@ -76,8 +76,8 @@ impl<A: Allocator> WholeFile<A> {
 }
 
 impl<A: Allocator + Copy> WholeFile<A> {
-    /// The file that the system opens for a path, if it is a regular one of at least one byte and at most 32 KiB that
-    /// can be read now, and there is memory for it.
+    /// The file that the system opens for a path, if it is a regular one of at most 32 KiB that can be read now, and
+    /// there is memory for it.
     pub fn open<R: Files>(rt: &R, alloc: A, path: &str) -> Option<WholeFile<A>>
         ensures { IfSome result (λ file. file.path.items ≡ path.now) }
     {
@@ -85,8 +85,7 @@ impl<A: Allocator + Copy> WholeFile<A> {
         let metadata = file.metadata();
         let len = metadata.as_ref().ok()?.len();
         let id = regular_id(metadata)?;
-        // The kernel's own files, as those of /proc, have no length, and some give their bytes only once.
-        if len == 0 || len > LONGEST {
+        if len > LONGEST {
             return None;
         }
         let bytes = read_whole(alloc, &mut file, len as usize)?;

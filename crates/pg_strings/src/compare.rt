@@ -4,8 +4,8 @@ ghost use Rattle.memchr.specs.Find.{OccursAt};
 
 use crate::budget::Budget;
 
-/// How many bytes are compared for what comparing one more string costs.
-const STRIDE: usize = 8;
+/// How many bytes are compared, or make a number, for what looking at one more string, or length, costs.
+pub(crate) const STRIDE: usize = 8;
 
 /// Whether the last byte of a string stands where it has to, if the string stands at a place.
 #[inline(always)]

@@ -5,14 +5,11 @@ ghost use Rattle.pg_strings.specs.Outcomes.{strings_of, IsLongestAt, IsLook};
 ghost use Rattle.pg_strings.specs.Whole.{AreWhole};
 
 use crate::budget::Budget;
-use crate::compare::is_text;
+use crate::compare::{STRIDE, is_text};
 use crate::outcome::Look;
 use crate::set::StringSet;
 use crate::whole::{WholeStrings, chain_of};
 use std::alloc::Allocator;
-
-/// How many bytes are hashed for what looking for one more length costs.
-const STRIDE: usize = 8;
 
 impl<A: Allocator> StringSet<A> {
     /// The tables by all bytes, if a chain by first bytes has many strings.

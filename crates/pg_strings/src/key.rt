@@ -4,7 +4,7 @@ ghost use Rattle.std.specs.Int.{w64, from_le_bytes};
 ghost use Rattle.pg_strings.specs.Keys.{key, Weighs};
 
 /// A number that mixes well: 2^64 over the golden ratio.
-const MIX: u64 = 0x9E37_79B9_7F4A_7C15;
+pub(crate) const MIX: u64 = 0x9E37_79B9_7F4A_7C15;
 
 /// How many keys there are.
 pub(crate) const KEYS: usize = 131_072;

@@ -4,10 +4,8 @@ ghost use Rattle.pg_strings.specs.Keys.{items_of};
 ghost use Rattle.pg_strings.specs.Whole.{AreWhole, number_behind, whole_home};
 
 use crate::chains::Chains;
+use crate::key::MIX;
 use std::alloc::{AllocError, Allocator, Global};
-
-/// What numbers of bytes are multiplied by: 2^64 over the golden ratio.
-const MIX: u64 = 0x9E37_79B9_7F4A_7C15;
 
 /// A chain of more strings than these takes longer than to look for strings of each length by all their bytes.
 const LONG_CHAIN: u32 = 32;
