@@ -7,8 +7,11 @@ use crate::chains::Chains;
 use crate::key::MIX;
 use std::alloc::{AllocError, Allocator, Global};
 
-/// A chain of more strings than these takes longer than to look for strings of each length by all their bytes.
+/// A chain of more strings than these is long.
 const LONG_CHAIN: u32 = 32;
+
+/// To look for one length by all its bytes takes as long as to compare so many strings.
+const PER_LENGTH: u32 = 4;
 
 /// A number of all bytes of a text.
 fn number_of(text: &[u8]) -> u64
@@ -86,10 +89,13 @@ impl<A: Allocator> WholeStrings<A> {
         Ok(whole)
     }
 
-    /// Whether a chain by first bytes has so many strings that these are looked for by all their bytes.
+    /// Whether a chain by first bytes is long, and comparing its strings takes longer than to look for each length by all
+    /// its bytes.
     pub fn is_long(&self, chain: usize) -> bool {
         match self.counts.get(chain) {
-            Some(count) => *count > LONG_CHAIN,
+            Some(count) => {
+                *count > LONG_CHAIN && (*count / PER_LENGTH) as usize > self.lengths.len()
+            }
             None => false,
         }
     }
