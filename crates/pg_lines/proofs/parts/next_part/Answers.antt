@@ -31,8 +31,8 @@ returns-in-GaveUp-clause-next g c = λ trees spelled.
     let is = machine_of q c.machine-machine.result.now c.machine-machine.ensures.machine own in
     c.next_part-in-GaveUp.ensures.next trees (bounds_of q.text) (is trees spelled)
 
-pub next_part-in-Behind-requires-clause-from_in : goal.next_part-in-Behind-requires-clause-from_in
-next_part-in-Behind-requires-clause-from_in g c =
+pub next_part-requires-in-Behind-clause-from_in : goal.next_part-requires-in-Behind-clause-from_in
+next_part-requires-in-Behind-clause-from_in g c =
     let own = c.machine-machine.ensures.compiled in
     (c.in-Behind.ensures own.0 own.1).1
 

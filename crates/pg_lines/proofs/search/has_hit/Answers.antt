@@ -44,7 +44,7 @@ returns-in-Behind-clause-hit g c = λ trees spelled.
     c.next_part-in-Behind.result refl (c.next_part-in-Behind.ensures.next trees (bounds_of text)
     (subst M (sym c.machine.ensures.machine) machine))
 
-pub next_part-in-Behind-requires-clause-from_in : goal.next_part-in-Behind-requires-clause-from_in
-next_part-in-Behind-requires-clause-from_in g c =
+pub next_part-requires-in-Behind-clause-from_in : goal.next_part-requires-in-Behind-clause-from_in
+next_part-requires-in-Behind-clause-from_in g c =
     let own = c.machine.ensures.compiled in
     (c.in-Behind.ensures own.0 own.1).1
