@@ -135,7 +135,7 @@ CASES = [
     ),
     # The same where blocks wait for a round, as they do for an expression without literals.
     Case(
-        "-H -E [^y]+ first missing other IN",
+        "-H -E [^noe] first missing other IN",
         ((None, "first:x in first", "..missing..", "other:x in other"), ("x1", "IN:x1")),
         status=2,
         ways=(TERMINAL,),
