@@ -152,7 +152,9 @@ def cases(folder, megabytes):
     for name in ("ids", "ids-and-foo"):
         for text in ("numbers", "orders"):
             for options in LISTS:
-                yield Case(["-F", options, "-f", name], text, ["-F", options, "-f", name])
+                # ripgrep takes seconds with -i for these lists, and more than a minute with -w.
+                ripgrep = None if options in ("-ci", "-cw") else ["-F", options, "-f", name]
+                yield Case(["-F", options, "-f", name], text, ripgrep)
     write(folder / "letters", b"a" * 20_000 + b"\n")
     yield from split("-oE a*b|a", "letters")
     write(folder / "log", texts.log(20))
