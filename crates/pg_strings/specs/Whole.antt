@@ -24,7 +24,10 @@ pub record AreWhole (lengths first next : List ℕ) (strings : List (List ℕ)) 
   pub worth : sum_by (λ len. 1 + len) lengths ≤ work strings
   pub linked : AreChains first next (map whole_home strings)
 
+-- the tables are those of these strings
+abbrev pub IsWholeOf : {A : Type 0} → WholeStrings A → List (List ℕ) → Type 0
+IsWholeOf whole strings = AreWhole whole.lengths.items whole.chains.first.items whole.chains.next.items strings
+
 -- that is so, if there are such tables
 abbrev pub KnowsWhole : {A : Type 0} → Option (WholeStrings A) → List (List ℕ) → Type 0
-KnowsWhole whole strings =
-    ForSome whole (λ tables. AreWhole tables.lengths.items tables.chains.first.items tables.chains.next.items strings)
+KnowsWhole whole strings = ForSome whole (λ tables. IsWholeOf tables strings)

@@ -2,7 +2,7 @@
 ghost use Rattle.std.specs.Prelude.{◌+◌, ◌<◌, ◌≤◌, ◌↔◌, length, IfSome, IsTrue, Contains};
 ghost use Rattle.pg_strings.specs.Sets.{SomeStands, StandsSo, work};
 ghost use Rattle.pg_strings.specs.Outcomes.{strings_of, IsLongestAt, IsLook};
-ghost use Rattle.pg_strings.specs.Whole.{AreWhole};
+ghost use Rattle.pg_strings.specs.Whole.{IsWholeOf};
 
 use crate::budget::Budget;
 use crate::compare::{STRIDE, is_text};
@@ -14,8 +14,7 @@ use std::alloc::Allocator;
 impl<A: Allocator> StringSet<A> {
     /// The tables by all bytes, if a chain by first bytes has many strings.
     pub(crate) fn whole_for(&self, chain: usize) -> Option<&WholeStrings<A>>
-        ensures { IfSome result (λ whole. AreWhole whole.now.lengths.items whole.now.chains.first.items
-            whole.now.chains.next.items (strings_of self.now)) }
+        ensures { IfSome result (λ whole. IsWholeOf whole.now (strings_of self.now)) }
     {
         match &self.whole {
             Some(whole) if whole.is_long(chain) => Some(whole),
@@ -25,8 +24,7 @@ impl<A: Allocator> StringSet<A> {
 
     /// Whether a text is one of the strings.
     pub(crate) fn has_whole(&self, whole: &WholeStrings<A>, text: &[u8]) -> bool
-        requires { AreWhole whole.now.lengths.items whole.now.chains.first.items whole.now.chains.next.items
-            (strings_of self.now) }
+        requires { IsWholeOf whole.now (strings_of self.now) }
         ensures { IsTrue result ↔ Contains (strings_of self.now) text.now }
     {
         let mut link = whole.chains.first[chain_of(text)];
@@ -41,8 +39,7 @@ impl<A: Allocator> StringSet<A> {
 
     /// Whether a string of this length stands at a place.
     fn stands_whole(&self, whole: &WholeStrings<A>, len: usize, bytes: &[u8], place: usize) -> bool
-        requires whole { AreWhole whole.now.lengths.items whole.now.chains.first.items
-            whole.now.chains.next.items (strings_of self.now) }
+        requires whole { IsWholeOf whole.now (strings_of self.now) }
         requires place { place ≤ length bytes.now }
         ensures { IsTrue result ↔ StandsSo (strings_of self.now) bytes.now place len }
     {
@@ -57,8 +54,7 @@ impl<A: Allocator> StringSet<A> {
         place: usize,
         budget: &mut Budget,
     ) -> Look
-        requires whole { AreWhole whole.now.lengths.items whole.now.chains.first.items
-            whole.now.chains.next.items (strings_of self.now) }
+        requires whole { IsWholeOf whole.now (strings_of self.now) }
         requires place { place ≤ length bytes.now }
         ensures look { IsLook (SomeStands (strings_of self.now) bytes.now place) budget.new.left result }
         ensures less { budget.new.left ≤ budget.old.left }
@@ -87,8 +83,7 @@ impl<A: Allocator> StringSet<A> {
         bytes: &[u8],
         place: usize,
     ) -> usize
-        requires whole { AreWhole whole.now.lengths.items whole.now.chains.first.items
-            whole.now.chains.next.items (strings_of self.now) }
+        requires whole { IsWholeOf whole.now (strings_of self.now) }
         requires place { place ≤ length bytes.now }
         ensures low { longest ≤ result }
         ensures own { StandsSo (strings_of self.now) bytes.now place len → len ≤ result }
@@ -108,8 +103,7 @@ impl<A: Allocator> StringSet<A> {
         bytes: &[u8],
         place: usize,
     ) -> Option<usize>
-        requires whole { AreWhole whole.now.lengths.items whole.now.chains.first.items
-            whole.now.chains.next.items (strings_of self.now) }
+        requires whole { IsWholeOf whole.now (strings_of self.now) }
         requires place { place ≤ length bytes.now }
         ensures { IsLongestAt (strings_of self.now) bytes.now place result }
     {

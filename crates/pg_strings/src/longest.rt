@@ -59,7 +59,8 @@ impl<A: Allocator> StringSet<A> {
     pub fn contains(&self, line: &[u8]) -> bool
         ensures { IsTrue result ↔ Contains (strings_of self.now) line.now }
     {
-        if let Some(whole) = &self.whole {
+        let key = last_key_at(self.factor, line, 0);
+        if let Some(whole) = self.whole_for(key / SHARE) {
             return self.has_whole(whole, line);
         }
         match self.longest_at(line, 0) {

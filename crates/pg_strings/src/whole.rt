@@ -1,7 +1,7 @@
 //! Strings that are known by all their bytes, for lists of which many begin alike.
 ghost use Rattle.std.specs.Prelude.{◌≡◌, ◌<◌, ◌++◌, ◌∷◌, [], List, ℕ, length, map, IfOk, IfSome, OnOk};
 ghost use Rattle.pg_strings.specs.Keys.{items_of};
-ghost use Rattle.pg_strings.specs.Whole.{AreWhole, number_behind, whole_home};
+ghost use Rattle.pg_strings.specs.Whole.{IsWholeOf, number_behind, whole_home};
 
 use crate::chains::Chains;
 use crate::key::MIX;
@@ -54,9 +54,7 @@ impl<A: Allocator> WholeStrings<A> {
     fn push(&mut self, string: &[u8]) -> Result<(), AllocError>
         requires { length self.old.chains.first.items ≡ 8192 }
         ensures { OnOk result ((strings : List (List ℕ))
-            → AreWhole self.old.lengths.items self.old.chains.first.items self.old.chains.next.items strings
-            → AreWhole self.new.lengths.items self.new.chains.first.items self.new.chains.next.items
-            (strings ++ string.now ∷ [])) }
+            → IsWholeOf self.old strings → IsWholeOf self.new (strings ++ string.now ∷ [])) }
     {
         let len = string.len();
         if !self.lengths.contains(&len) {
@@ -75,8 +73,7 @@ impl<A: Allocator> WholeStrings<A> {
     ) -> Result<WholeStrings<A>, AllocError>
     where
         A: Copy,
-        ensures { IfOk result (λ whole. AreWhole whole.lengths.items whole.chains.first.items
-            whole.chains.next.items (map items_of strings.now)) }
+        ensures { IfOk result (λ whole. IsWholeOf whole (map items_of strings.now)) }
     {
         let mut whole = WholeStrings {
             lengths: Vec::new(alloc),
