@@ -1,7 +1,7 @@
 -- Strings that are known by all their bytes: for `number_of`, `WholeStrings` and the searches in find_whole.rt.
-use Rattle.std.proofs.Common.{◌≡◌, ℕ, ◌+◌, ◌-◌, ◌<◌, ◌≤◌, ◌↔◌, ◌++◌, ◌∷◌, ◌||◌, IsTrue, Bool, true, false}
+use Rattle.std.proofs.Common.{◌≡◌, ℕ, ◌+◌, ◌<◌, ◌≤◌, ◌↔◌, ◌++◌, ◌∷◌, ◌||◌, IsTrue, Bool, true, false}
 use Rattle.std.proofs.Common.{List, [], length, map, drop, take, get_or, refl, sym, ap, ◌∙◌, arith}
-use Rattle.std.proofs.Common.{subst, inl, inr, zero-add}
+use Rattle.std.proofs.Common.{subst, inl, inr}
 use Rattle.std.specs.Prelude.{nat_eq, Contains}
 use Rattle.std.specs.List.{All, list_any, sum_by}
 use Rattle.std.proofs.lemmas.Bool.{eqb-true, eq-eqb, cases_lt}
@@ -13,7 +13,7 @@ use Rattle.std.proofs.Math.Bool.{or-true}
 use Rattle.memchr.specs.Find.{OccursAt}
 use Rattle.memchr.proofs.lemmas.MatchLemmas.{OccursAt-part, OccursAt-from_part}
 use Rattle.pg_strings.specs.Keys.{AreChains}
-use Rattle.pg_strings.specs.Sets.{SomeStands, StandsSo, work}
+use Rattle.pg_strings.specs.Sets.{SomeStands, StandsSo}
 use Rattle.pg_strings.specs.Whole.{AreWhole, whole_home}
 use Rattle.pg_strings.proofs.WalkLemmas.{IsWalked}
 

@@ -1,5 +1,5 @@
 //! What a search may spend on comparing strings.
-ghost use Rattle.std.specs.Prelude.{◌+◌, ◌*◌, ◌≤◌};
+ghost use Rattle.std.specs.Prelude.{◌≡◌, ◌+◌, ◌-◌, ◌*◌, ◌≤◌};
 
 /// How much each byte that is passed adds to a budget.
 const RATE: usize = 8;
@@ -14,9 +14,8 @@ pub struct Budget {
 impl Budget {
     /// Takes a cost, or what is left where that is less.
     #[inline(always)]
-    pub(crate) fn spend(&mut self, cost: usize)
-        ensures less { self.new.left ≤ self.old.left }
-        ensures cost { self.old.left ≤ self.new.left + cost }
+    pub fn spend(&mut self, cost: usize)
+        ensures { self.new.left ≡ self.old.left - cost }
     {
         self.left = self.left.saturating_sub(cost);
     }

@@ -1,4 +1,4 @@
-use Rattle.std.proofs.Common.{◌≡◌, ◌<◌, ◌≤◌, ◌+◌, ◌/◌, ℕ, length, map, take, true, false, arith, subst, sym, ap, get_or}
+use Rattle.std.proofs.Common.{◌≡◌, ◌<◌, ◌+◌, length, map, true, false, arith, subst, sym, ap, get_or}
 use Rattle.std.proofs.Common.{inl, inr, ◌∙◌}
 use Rattle.std.proofs.lemmas.Bool.{cases_lt}
 use Rattle.std.proofs.lemmas.List.{get_or_default}
@@ -29,8 +29,8 @@ loop-at-preserved g c =
             let yes : true ≡ false = sym (c.stands_whole.ensures.1 here) ∙ c.if-stands_whole.false in
             absurd (cc)
       ];
-      less = omega (arith, c.spend.ensures.less, before);
-      cost = omega (arith, c.spend.ensures.cost, cost, more, is);
+      less = omega (arith, c.spend.ensures, before);
+      cost = omega (arith, c.spend.ensures, cost, more, is);
     }
 
 pub returns-clause-look : goal.returns-clause-look
@@ -54,4 +54,4 @@ returns-then-stands_whole-clause-cost g c =
     let cost = c.loop-at.invariant.cost in
     let more = sum_by_more_le (λ n. 1 + n) lengths at 0 less in
     let worth = c.requires.whole.worth in
-    omega (arith, c.spend.ensures.cost, cost, more, is, worth)
+    omega (arith, c.spend.ensures, cost, more, is, worth)
