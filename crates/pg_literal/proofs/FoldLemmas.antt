@@ -1,18 +1,24 @@
 -- Lines and sets as they are searched.
 use Rattle.std.proofs.Common.{ℕ, ◌≡◌, ◌<◌, ◌≤◌, ◌==◌, List, [], ◌∷◌, ◌++◌, length, Bool, true, false}
-use Rattle.std.proofs.Common.{Option, Some, None, refl, sym, ap, ◌∙◌, arith, ◌⊎◌, inl, inr, ◌↔◌, ◌≢◌, not}
+use Rattle.std.proofs.Common.{rules, Option, Some, None, refl, sym, ap, ◌∙◌, arith, ◌⊎◌, inl, inr, ◌↔◌, ◌≢◌, not}
 use mathlib.Core.Bool.{beq}
+use Rattle.std.specs.Bool.{Decides}
 use Rattle.std.specs.Prelude.{slice_get, option_map}
 use Rattle.std.proofs.lemmas.Bool.{false≢true, cases_lt}
 use Rattle.std.proofs.lemmas.Bool.Decides.{nat_tests}
 use Rattle.std.proofs.lemmas.List.{length-map, map-append}
 use Rattle.std.proofs.lemmas.Option.{slice_get-map, none-some, same_Some}
+use Rattle.pg_bytes.specs.contracts.byte_set.ByteSetPartialEq.TheImpl.{eq-value}
 use Rattle.pg_bytes.specs.declared.byte_set.ByteSet.{ByteSet}
 use Rattle.pg_bytes.specs.ByteSets.{bytes}
 use Rattle.pg_bytes.specs.Sets.{Bytes, one, closed, lower_case}
 use Rattle.pg_pattern.specs.Patterns.{folded}
 use Rattle.pg_literal.specs.Literals.{as_searched}
 use Rattle.pg_literal.specs.Rows.{byte_as_searched, IsAlone}
+
+-- sets that are told to be the same are
+pub same_sets : (a b : ByteSet) → Decides (eq-value.it a b) (a ≡ b)
+same_sets a b = search rules
 
 -- no byte is gained or lost
 pub length_searched : (fold : Bool) (line : List ℕ) → length (as_searched fold line) ≡ length line

@@ -279,6 +279,18 @@ module _ (fold : Bool) (set : Bytes) where
         ],
       ))
 
+-- of a set that is searched for as one byte
+pub choice_alone : (fold : Bool) (set : Bytes) (b : ℕ) → IsAlone fold set b → AreChoices fold set (b ∷ [])
+choice_alone fold set b alone c = (
+  λ in_set. (0, omega arith, sym ((alone.1 c).0 in_set)),
+  λ among. (alone.1 c).1 (only among.0 among.1 among.2),
+)
+  where
+    only : (k : ℕ) → k < 1 → get_or (b ∷ []) k (byte_as_searched fold c) ≡ byte_as_searched fold c
+        → byte_as_searched fold c ≡ b
+    only zero less is = sym is
+    only (suc k) less is = absurd (omega arith)
+
 -- the bytes that those of a set are searched for as
 pub choices_are : (fold : Bool) (set : ByteSet) (choices : List ℕ)
     → ((c : ℕ) → bytes set c ≡ bytes set (byte_as_searched fold c)) → FoundBelow fold (bytes set) choices 256

@@ -4,6 +4,8 @@ ghost use Rattle.std.specs.Prelude.{MatchOption, IfOk, IfSome};
 ghost use Rattle.std.specs.Prelude.{IsTrue, IsSomeAnd, OnOk, nat_eq, ◌&&◌, if◌then◌else◌};
 ghost use Rattle.std.specs.List.{flat_map};
 ghost use Rattle.pg_bytes.specs.ByteSets.{bytes};
+ghost use Rattle.pg_bytes.specs.Sets.{one};
+ghost use Rattle.pg_pattern.specs.Patterns.{folded};
 ghost use Rattle.pg_literal.specs.Literals.{as_searched};
 ghost use Rattle.pg_literal.specs.Rows.{items_of, byte_as_searched, row_of, IsAlone, AreChoices, AreProduct};
 ghost use Rattle.pg_literal.specs.Known.{sets_of};
@@ -85,11 +87,34 @@ fn as_searched(byte: u8, fold: bool) -> u8
     }
 }
 
+/// Whether a set has only bytes from a bound on.
+#[inline(always)]
+fn is_from(set: &ByteSet, bound: u8) -> bool
+    ensures { IsTrue result → (b : ℕ) → b < bound → bytes set.now b ≡ true → ⊥ }
+{
+    let mut high = ByteSet::empty();
+    high.insert_range(bound, u8::MAX);
+    set.union(high) == high
+}
+
+/// A byte that no byte of a set is below. Where it is greater, fewer bytes are looked at.
+fn low_end(set: &ByteSet) -> u8
+    ensures { (b : ℕ) → b < result → bytes set.now b ≡ true → ⊥ }
+{
+    if is_from(set, 96) {
+        96
+    } else if is_from(set, 48) {
+        48
+    } else {
+        0
+    }
+}
+
 /// The least byte of a set.
 fn first_byte(set: &ByteSet) -> Option<u8>
     ensures { MatchOption result ((b : ℕ) → bytes set.now b ≡ true → ⊥) (λ b. bytes set.now b ≡ true) }
 {
-    for byte in 0..=u8::MAX {
+    for byte in low_end(set)..=u8::MAX {
         if set.contains(byte) {
             return Some(byte);
         }
@@ -97,11 +122,25 @@ fn first_byte(set: &ByteSet) -> Option<u8>
     None
 }
 
+/// The set of the bytes that are searched for as a byte is.
+fn set_of(byte: u8, fold: bool) -> ByteSet
+    ensures { bytes result ≡ folded fold (one byte) }
+{
+    let mut set = ByteSet::empty();
+    set.insert(byte);
+    if fold { set.close_case() } else { set }
+}
+
 /// The byte that those of a set are searched for as, where the set has all that are searched for as that byte.
 fn only_byte(set: &ByteSet, fold: bool) -> Option<u8>
     ensures { MatchOption result ((b : ℕ) → IsAlone fold (bytes set.now) b → ⊥) (IsAlone fold (bytes set.now)) }
 {
-    let byte = as_searched(first_byte(set)?, fold);
+    let first = first_byte(set)?;
+    let byte = as_searched(first, fold);
+    // Most sets are of one byte, and are told so without a look at all others.
+    if *set == set_of(first, fold) {
+        return Some(byte);
+    }
     for other in 0..=u8::MAX {
         if set.contains(other) != (as_searched(other, fold) == byte) {
             return None;
@@ -131,14 +170,15 @@ fn has_terminator(set: &ByteSet, count: usize) -> bool {
 /// The only byte of a set, if it has but one.
 fn single_byte(set: &ByteSet) -> Option<u8> {
     let byte = first_byte(set)?;
-    let mut single = ByteSet::empty();
-    single.insert(byte);
-    if *set == single { Some(byte) } else { None }
+    if *set == set_of(byte, false) {
+        Some(byte)
+    } else {
+        None
+    }
 }
 
 /// The weight of a set. One without a byte that is searched for counts as if it had one.
 fn weight_of(set: &ByteSet, fold: bool) -> Weight {
-    // Most sets are of one byte, and are told so without a look at all others.
     if let Some(byte) = single_byte(set) {
         let is_searched = as_searched(byte, fold) == byte;
         return Weight {
@@ -287,6 +327,9 @@ pub(crate) fn only_text<A: Allocator + Copy>(
 fn has_all_cases(set: &ByteSet, fold: bool) -> bool
     ensures { IsTrue result → (c : ℕ) → bytes set.now c ≡ bytes set.now (byte_as_searched fold c) }
 {
+    if !fold {
+        return true;
+    }
     for byte in 0..=u8::MAX {
         if set.contains(byte) != set.contains(as_searched(byte, fold)) {
             return false;
@@ -319,10 +362,14 @@ fn choices_of<A: Allocator + Copy>(
 ) -> Result<Option<Vec<u8, A>>, AllocError>
     ensures { IfOk result (λ found. IfSome found (λ choices. AreChoices fold (bytes set.now) choices.items)) }
 {
+    let mut choices = Vec::new(alloc);
+    if let Some(byte) = only_byte(set, fold) {
+        choices.push(byte)?;
+        return Ok(Some(choices));
+    }
     if !has_all_cases(set, fold) {
         return Ok(None);
     }
-    let mut choices = Vec::new(alloc);
     for byte in 0..=u8::MAX {
         push_choice(set, fold, byte, &mut choices)?;
     }

@@ -8,6 +8,7 @@ use Rattle.std.proofs.lemmas.List.{get_or_append_left}
 use Rattle.std.proofs.lemmas.Option.{slice_get-get_or}
 use Rattle.std.proofs.Math.Seq.{get_or-append_seam}
 use Rattle.pg_bytes.specs.ByteSets.{bytes}
+use Rattle.pg_bytes.specs.Sets.{Bytes}
 use Rattle.pg_bytes.specs.declared.byte_set.ByteSet.{ByteSet}
 use Rattle.pg_match.specs.Automata.{Nfa, Edge, Runs, IsTidy, target_below}
 use Rattle.pg_pattern.specs.Bounds.{MayBegin}
@@ -15,7 +16,7 @@ use Rattle.pg_match.specs.Closures.{Leads, IsClosed, IsOrdered, AllBelow, AreSee
 use Rattle.pg_match.specs.Memories.{Same}
 use Rattle.pg_match.specs.Searches.{Seeded}
 use Rattle.pg_match.specs.Stands.{Stands}
-use Rattle.pg_match.specs.Starts.{Targeted, StartsBelow, Sown, Planted, WithSeeds, GoesOn}
+use Rattle.pg_match.specs.Starts.{AreAmong, Targeted, StartsBelow, Sown, Planted, WithSeeds, GoesOn}
 use Rattle.pg_match.specs.StateSets.{Members, mark, IsGood, Inserted, Counted}
 use Rattle.pg_match.specs.Steps.{Reads, LeadsStill, Has, Closed, Aimed, Goes, AnswersEnd}
 use Rattle.pg_match.specs.declared.state.State.{State}
@@ -38,6 +39,15 @@ read_inside t q b r tidy within read =
     go (AtBegin x) below h = absurd h
     go (AtEnd x) below h = absurd h
     go (Split x y) below h = absurd h
+
+-- what one more seed reads is among more bytes
+pub among_next : (t : List State) (seeds : List ℕ) (k : ℕ) (read after : Bytes) → AreAmong t seeds k read
+    → ((b : ℕ) → read b ≡ true → after b ≡ true)
+    → ((b r : ℕ) → Reads (slice_get t (slice_index seeds k)) b r → after b ≡ true) → AreAmong t seeds (k + 1) after
+among_next t seeds k read after among more here b i r less reads = elim (cases_eq i k) [
+  | inl same ↦ here b r (subst (λ v. Reads (slice_get t (slice_index seeds v)) b r) same reads)
+  | inr other ↦ more b (among b i r (omega arith) reads)
+]
 
 -- the state that was pushed stands at the end, and the others stay
 module _ (new after : List ℕ) (x : ℕ) (push : after ≡ new ++ x ∷ []) where

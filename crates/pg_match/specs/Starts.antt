@@ -1,6 +1,7 @@
 -- Where a byte leads to from the states that a run may be in before it.
-use Rattle.std.specs.Prelude.{◌≡◌, ℕ, ◌+◌, ◌<◌, ◌≤◌, ◌⊎◌, ◌↔◌, Bool, false, IsTrue, List, length, slice_get}
+use Rattle.std.specs.Prelude.{◌≡◌, ℕ, ◌+◌, ◌<◌, ◌≤◌, ◌⊎◌, ◌↔◌, Bool, true, false, IsTrue, List, length, slice_get}
 use Rattle.std.specs.Prelude.{slice_index, Option, Some, None}
+use Rattle.pg_bytes.specs.Sets.{Bytes}
 use Rattle.pg_match.specs.Automata.{Nfa, Edge}
 use Rattle.pg_pattern.specs.Bounds.{MayBegin}
 use Rattle.pg_match.specs.Closures.{Leads, IsClosed, IsOrdered}
@@ -12,6 +13,11 @@ use Rattle.pg_match.specs.declared.state.State.{State}
 -- the state where matches end is a seed
 abbrev pub HasEnd : List ℕ → Type 0
 HasEnd seeds = (k : ℕ) × (k < length seeds) × (slice_index seeds k ≡ 0)
+
+-- the bytes that the first k seeds read are among these
+abbrev pub AreAmong : List State → List ℕ → ℕ → Bytes → Type 0
+AreAmong t seeds k read =
+    (b i r : ℕ) → i < k → Reads (slice_get t (slice_index seeds i)) b r → read b ≡ true
 
 -- the states that the byte leads to from the first k seeds were added at the end
 pub record Targeted (t : List State) (seeds : List ℕ) (b : ℕ) (old new : List ℕ) (k : ℕ) : Type 0 where

@@ -20,6 +20,10 @@ const TRY: usize = 64;
 /// What all tries may cost beyond that.
 const TRIES: usize = 1_024;
 
+/// At so many places more is remembered of the runs that begin there, behind one search that the table couldn't answer.
+/// On long lines such a search takes long, so that more is remembered than what it needed.
+const PLACES: usize = 32;
+
 /// What remembered sets tell of the spans that begin at a place and have a byte.
 #[derive(Clone, Copy)]
 pub(crate) enum Begun {
@@ -265,7 +269,42 @@ impl<A: Allocator> Automaton<A> {
         }
     }
 
-    /// Learns more of the runs that begin at a place, and of those that begin where the best span does.
+    /// Learns more of the runs that begin at a place, and at the next places of which too little is remembered. Answers
+    /// whether the best span from there on is remembered now.
+    fn study_starts(
+        &self,
+        sets: &mut StateSets<A>,
+        memory: &mut Cache<A>,
+        line: &[u8],
+        start: usize,
+    ) -> bool
+        requires built { IsBuilt self.now }
+        requires room { HaveRoom (buffers sets.old) (length self.now.states.items) }
+        requires memory { IsAnchoredMemoryOf (nfa self.now) (remembered memory.old) }
+        requires short { length line.now ≤ 2 ^ 30 }
+        requires start_in { start ≤ length line.now }
+        requires visits { sets.old.visits ≤ (length line.now + 1) * length self.now.states.items }
+        ensures room { HaveRoom (buffers sets.new) (length self.now.states.items) }
+        ensures memory { IsAnchoredMemoryOf (nfa self.now) (remembered memory.new) }
+        ensures visits { sets.new.visits ≤ (length line.now + 1) * length self.now.states.items }
+        ensures told { Tells sets.old sets.new }
+    {
+        let mut place = start;
+        for _round in 0..PLACES {
+            self.study_from(sets, memory, line, place);
+            let (next, end) = self.try_starts(memory, line, place);
+            if end.is_some() {
+                return true;
+            }
+            if next == place {
+                return false;
+            }
+            place = next;
+        }
+        false
+    }
+
+    /// Learns more of the runs that begin at a place and behind it, and of those that begin where the best span does.
     fn study_both(
         &self,
         sets: &mut StateSets<A>,
@@ -278,15 +317,17 @@ impl<A: Allocator> Automaton<A> {
         requires room { HaveRoom (buffers sets.old) (length self.now.states.items) }
         requires memory { IsAnchoredMemoryOf (nfa self.now) (remembered memory.old) }
         requires short { length line.now ≤ 2 ^ 30 }
+        requires place_in { place ≤ length line.now }
         requires visits { sets.old.visits ≤ (length line.now + 1) * length self.now.states.items }
         ensures room { HaveRoom (buffers sets.new) (length self.now.states.items) }
         ensures memory { IsAnchoredMemoryOf (nfa self.now) (remembered memory.new) }
         ensures visits { sets.new.visits ≤ (length line.now + 1) * length self.now.states.items }
         ensures told { Tells sets.old sets.new }
     {
-        self.study_from(sets, memory, line, place);
-        if let Some((first, _)) = best {
-            self.study_from(sets, memory, line, first);
+        let is_known = self.study_starts(sets, memory, line, place);
+        match best {
+            Some((first, _)) if !is_known => self.study_from(sets, memory, line, first),
+            _ => {}
         }
     }
 

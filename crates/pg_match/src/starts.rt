@@ -1,8 +1,10 @@
 //! Where a byte leads to from the states that a run may be in before it.
 ghost use Rattle.std.specs.Prelude.{◌≡◌, ℕ, ◌+◌, ◌<◌, ◌≤◌, ◌↔◌, length, slice_index, IfOk, IsTrue};
-ghost use Rattle.pg_match.specs.Starts.{AreStarts, Targeted, HasEnd};
+ghost use Rattle.pg_bytes.specs.ByteSets.{bytes};
+ghost use Rattle.pg_match.specs.Starts.{AreStarts, AreAmong, Targeted, HasEnd};
 
 use crate::state::State;
+use pg_bytes::ByteSet;
 use std::alloc::{AllocError, Allocator, Global};
 
 /// For each byte the states that it leads to from a seed, so that a search doesn't look at the seeds that can't read
@@ -51,6 +53,21 @@ fn has_end(seeds: &[u32]) -> bool
     false
 }
 
+/// The bytes that the seeds read.
+fn read_by(states: &[State], seeds: &[u32]) -> ByteSet
+    requires inside { (k : ℕ) → k < length seeds.now → slice_index seeds.now k < length states.now }
+    ensures { AreAmong states.now seeds.now (length seeds.now) (bytes result) }
+{
+    let mut read = ByteSet::empty();
+    for k in 0..seeds.len() {
+        let state = seeds[k];
+        if let State::Read(set, _) = &states[state as usize] {
+            read = read.union(*set);
+        }
+    }
+    read
+}
+
 /// Adds the states that a byte leads to from the seeds.
 fn add_targets<A: Allocator>(
     targets: &mut Vec<u32, A>,
@@ -73,6 +90,25 @@ fn add_targets<A: Allocator>(
     Ok(())
 }
 
+/// The same, which takes no time for a byte that no seed reads. In a long list of words most bytes are such.
+fn add_read<A: Allocator>(
+    targets: &mut Vec<u32, A>,
+    states: &[State],
+    seeds: &[u32],
+    read: &ByteSet,
+    byte: u8,
+) -> Result<(), AllocError>
+    requires inside { (k : ℕ) → k < length seeds.now → slice_index seeds.now k < length states.now }
+    requires read { AreAmong states.now seeds.now (length seeds.now) (bytes read.now) }
+    ensures { IfOk result
+        (λ _. Targeted states.now seeds.now byte targets.old.items targets.new.items (length seeds.now)) }
+{
+    if !read.contains(byte) {
+        return Ok(());
+    }
+    add_targets(targets, states, seeds, byte)
+}
+
 /// Where each byte leads to from the seeds.
 pub(crate) fn starts_of<A: Allocator + Copy>(
     alloc: A,
@@ -85,8 +121,9 @@ pub(crate) fn starts_of<A: Allocator + Copy>(
 {
     let mut targets = Vec::new(alloc);
     let mut cuts = vec![in alloc; 0u32; 257]?;
+    let read = read_by(states, seeds);
     for byte in 0..256u32 {
-        add_targets(&mut targets, states, seeds, byte as u8)?;
+        add_read(&mut targets, states, seeds, &read, byte as u8)?;
         cuts[byte as usize + 1] = targets.len() as u32;
     }
     Ok(Starts {

@@ -1,6 +1,7 @@
-use Rattle.std.proofs.Common.{◌+◌, sym, ap, subst, rules, arith}
+use Rattle.std.proofs.Common.{◌+◌, ◌++◌, ◌∷◌, [], ◌∙◌, sym, ap, subst, rules, arith}
 use Rattle.pg_bytes.specs.ByteSets.{bytes}
-use Rattle.pg_literal.proofs.RowLemmas.{FoundBelow, found_more, choices_are}
+use Rattle.pg_literal.specs.Rows.{AreChoices}
+use Rattle.pg_literal.proofs.RowLemmas.{FoundBelow, found_more, choices_are, choice_alone}
 use Rattle.pg_literal.proofs.row.choices_of.Goals as goal
 use Rattle.pg_literal.proofs.row.choices_of.Goals.{else-loop-byte-test}
 use Rattle.pg_literal.proofs.row.choices_of.Goals.{then-loop-byte-test+in_ok-push_choice+else-byte-lt255}
@@ -24,3 +25,9 @@ returns g c =
           subst (λ n. FoundBelow fold (bytes set) c.loop-byte-test.choices.items n) (omega arith)
           (subst (λ xs. FoundBelow fold (bytes set) xs (byte + 1)) (sym (ap (λ v. v.items) w.choices-is)) found)
     ])
+
+pub returns-in-Some : goal.returns-in-Some
+returns-in-Some g c =
+    let items = c.in_ok-push.ensures.items ∙ ap (λ xs. xs ++ c.in-Some.byte ∷ []) c.new-choices.ensures.items in
+    subst (AreChoices c.args.fold (bytes c.args.set.now)) (sym items)
+    (choice_alone c.args.fold (bytes c.args.set.now) c.in-Some.byte c.in-Some.ensures)

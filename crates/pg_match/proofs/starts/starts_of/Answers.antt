@@ -8,10 +8,10 @@ loop-byte-preserved g c =
     let inv = c.loop-byte.invariant in
     let n = c.loop-byte.byte in
     let cuts = c.loop-byte.cuts.items in
-    let new = c.add_targets.new.targets.items in
+    let new = c.add_read.new.targets.items in
     let room : n + 1 < length cuts = omega (arith, inv.size, c.loop-byte-test.true) in
-    let len : c.len.result ≡ length new = omega (arith, c.len.ensures, c.add_targets.new.targets.ok.0) in
-    let targeted = c.in_ok-add_targets.ensures in
+    let len : c.len.result ≡ length new = omega (arith, c.len.ensures, c.add_read.new.targets.ok.0) in
+    let targeted = c.in_ok-add_read.ensures in
     record {
       size = length-set cuts (n + 1) c.len.result ∙ inv.size;
       last = get_or-set_same cuts (n + 1) c.len.result 0 room ∙ len;
