@@ -21,7 +21,7 @@ use Rattle.pg_match.specs.declared.dfa_cache.Cache.{Cache}
 use Rattle.pg_match.specs.declared.state.State.{State}
 use Rattle.pg_match.proofs.CacheLemmas.{answers_same, nothing_known, row_of, at_row, same_back, same_on, sets_keep}
 use Rattle.pg_match.proofs.CacheLemmas.{sets_shape, starts_same}
-use Rattle.pg_match.proofs.SkimLemmas.{no_cross}
+use Rattle.pg_match.proofs.ScanLemmas.{no_cross}
 use Rattle.pg_match.proofs.StandsLemmas.{reads_edge, ends_here, ends_at_last, crossing}
 use Rattle.pg_match.proofs.StepLemmas.{edge_still}
 use Rattle.pg_match.specs.Closures.{Leads}
@@ -57,7 +57,7 @@ best_behind m l from start (Some b) later none best = (
   ],
 )
 
--- where no start is sown, a step goes alone
+-- where no start is added, a step goes alone
 pub gone_alone : (t : List State) (seeds : List ℕ) (b : ℕ) (S U : ℕ → Type 0) → GoesOn t seeds b (IsTrue false) S U
     → GoesAlone t b S U
 gone_alone t seeds b S U g = record {

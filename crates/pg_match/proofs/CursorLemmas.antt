@@ -11,7 +11,7 @@ use Rattle.pg_match.specs.Starts.{StandsUnseeded}
 use Rattle.pg_match.specs.declared.dfa_cursor.Crossed.{Crossed}
 use Rattle.pg_match.specs.declared.dfa_cursor.Crossed.TheVariants.{Found, At}
 use Rattle.pg_match.specs.declared.dfa_cursor.Cursor.{Cursor}
-use Rattle.pg_match.proofs.SkimLemmas.{skim_later}
+use Rattle.pg_match.proofs.ScanLemmas.{scan_later}
 
 -- a hit from a later place on
 run_later : (m : Nfa) (l : List ℕ) (from start : ℕ) → from ≤ start → HasRun m l start → HasRun m l from
@@ -89,7 +89,7 @@ module _ (m : Nfa) (seeds : List ℕ) (are : AreSeeds m.states m.start seeds) (l
 pub cursor_back : (m : Nfa) (mem : Remembered) (l : List ℕ) (p : ℕ) → IsMemoryOf m mem → p ≢ 0 → p ≤ length l
     → IsCursor m mem l (record { from = p; place = p - 1; state = 0 })
 cursor_back m mem l p is some within =
-    let s = skim_later m mem l p (p - 1) is some within refl in
+    let s = scan_later m mem l p (p - 1) is some within refl in
     record { within = s.within; near = s.near; row = s.row; stands = s.stands }
 
 -- the same found from an earlier place on, where no hit begins between the two

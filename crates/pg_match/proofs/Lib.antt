@@ -8,7 +8,7 @@ pub mod StepLemmas
 pub mod StandsLemmas
 pub mod StartLemmas
 pub mod CacheLemmas
-pub mod SkimLemmas
+pub mod ScanLemmas
 pub mod CursorLemmas
 pub mod AnchoredLemmas
 pub mod BuildLemmas

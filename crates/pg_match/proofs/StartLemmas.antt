@@ -16,9 +16,9 @@ use Rattle.pg_match.specs.Closures.{Leads, IsClosed, IsOrdered, AllBelow, AreSee
 use Rattle.pg_match.specs.Memories.{Same}
 use Rattle.pg_match.specs.Searches.{Seeded}
 use Rattle.pg_match.specs.Stands.{Stands}
-use Rattle.pg_match.specs.Starts.{AreAmong, Targeted, StartsBelow, Sown, Planted, WithSeeds, GoesOn}
+use Rattle.pg_match.specs.Starts.{AreAmong, Targeted, StartsBelow, SeedsStepped, SeedsMoved, WithSeeds, GoesOn}
 use Rattle.pg_match.specs.StateSets.{Members, mark, IsGood, Inserted, Counted}
-use Rattle.pg_match.specs.Steps.{Reads, LeadsStill, Has, Closed, Aimed, Goes, AnswersEnd}
+use Rattle.pg_match.specs.Steps.{Reads, LeadsStill, Has, Closed, Moved, Goes, AnswersEnd}
 use Rattle.pg_match.specs.declared.state.State.{State}
 use Rattle.pg_match.specs.declared.state.State.TheVariants.{Fail, Accept, Jump, Read, AtBegin, AtEnd, Split}
 use Rattle.pg_match.proofs.SearchLemmas.{edge_moves}
@@ -163,7 +163,8 @@ module _ (t : List State) (seeds : List ℕ) where
       }
 
 -- the same in the middle of it: the targets from place `first` to before place k were added
-pub record Sowing (t : List State) (l : List ℕ) (i : ℕ) (seeds targets : List ℕ) (old new : Members) (start first k : ℕ)
+pub record SeedsStepping (t : List State) (l : List ℕ) (i : ℕ) (seeds targets : List ℕ) (old new : Members)
+    (start first k : ℕ)
     : Type 0 where
   pub good : IsGood new
   pub size : length new.marks ≡ length old.marks
@@ -177,11 +178,11 @@ pub record Sowing (t : List State) (l : List ℕ) (i : ℕ) (seeds targets : Lis
   pub counted : Counted old new
 
 module _ (t : List State) (l : List ℕ) (i : ℕ) (seeds targets : List ℕ) (s : Members) (start first : ℕ) where
-  pub sowing_next : (u v : Members) (k : ℕ) → Sowing t l i seeds targets s u start first k
+  pub seeds_stepping_next : (u v : Members) (k : ℕ) → SeedsStepping t l i seeds targets s u start first k
       → Reached t l (i + 1) u v (slice_index targets k) start
       → (n : ℕ) → n < length seeds → Edge (slice_get t (slice_index seeds n)) l i (slice_index targets k) (i + 1)
-      → Sowing t l i seeds targets s v start first (k + 1)
-  sowing_next u v k a r n n_in edge = record {
+      → SeedsStepping t l i seeds targets s v start first (k + 1)
+  seeds_stepping_next u v k a r n n_in edge = record {
     good = r.good;
     size = r.size ∙ a.size;
     closed = r.closed;
@@ -201,10 +202,10 @@ module _ (t : List State) (l : List ℕ) (i : ℕ) (seeds targets : List ℕ) (s
     counted = omega (arith, a.counted, r.counted);
   }
 
-  pub sown : (u : Members) (k b : ℕ) (cuts : List ℕ) → Sowing t l i seeds targets s u start first k
+  pub seeded : (u : Members) (k b : ℕ) (cuts : List ℕ) → SeedsStepping t l i seeds targets s u start first k
       → StartsBelow t seeds targets cuts 256 → b < 256 → slice_get l i ≡ Some b → first ≡ slice_index cuts b
-      → slice_index cuts (b + 1) ≤ k → Sown t l i seeds s u start
-  sown u k b cuts a starts byte is low high = record {
+      → slice_index cuts (b + 1) ≤ k → SeedsStepped t l i seeds s u start
+  seeded u k b cuts a starts byte is low high = record {
     good = a.good;
     size = a.size;
     closed = a.closed;
@@ -217,37 +218,38 @@ module _ (t : List State) (l : List ℕ) (i : ℕ) (seeds targets : List ℕ) (s
     counted = a.counted;
   }
 
--- what was sown behind a place is what starts there lead to
+-- what was added behind a place is what starts there lead to
 module _ (t : List State) (l : List ℕ) (x p : ℕ) (B : ℕ → Type 0) (seeds : List ℕ) (are : AreSeeds t x seeds) where
-  passes : (s u : Members) → p ≢ 0 → p ≢ length l → Sown t l p seeds s u (p + 1) → (n k j : ℕ) → k < length seeds
+  passes : (s u : Members) → p ≢ 0 → p ≢ length l → SeedsStepped t l p seeds s u (p + 1) → (n k j : ℕ)
+      → k < length seeds
       → Runs t l n (slice_index seeds k) p j → p + 1 ≤ j
       → (q : ℕ) × (m : ℕ) × (0 < mark u q) × (mark u q ≤ p + 1) × Runs t l m q (p + 1) j
-  passes s u a b sown zero k j inside run past = absurd (omega (arith, run.1))
-  passes s u a b sown (suc n) k j inside run past =
+  passes s u a b seeded zero k j inside run past = absurd (omega (arith, run.1))
+  passes s u a b seeded (suc n) k j inside run past =
       let q = slice_index seeds k in
       elim (edge_moves (slice_get t q) l p run.0 run.1 run.2) [
         | inl stays ↦
             let w = are.closed l p a b k run.0 inside (subst (λ v. Edge (slice_get t q) l p run.0 v) stays run.2) in
-            passes s u a b sown n w.0 j w.1
+            passes s u a b seeded n w.0 j w.1
             (subst (λ r. Runs t l n r p j) (sym w.2) (subst (λ v. Runs t l n run.0 v j) stays run.3)) past
         | inr moves ↦
-            let h = sown.here k run.0 inside (subst (λ v. Edge (slice_get t q) l p run.0 v) moves run.2) in
+            let h = seeded.here k run.0 inside (subst (λ v. Edge (slice_get t q) l p run.0 v) moves run.2) in
             (run.0, n, h.0, h.1, subst (λ v. Runs t l n run.0 v j) moves run.3)
       ]
 
-  pub seeded : (s u : Members) (wanted : Bool) → p ≢ 0 → p ≢ length l → B p → Sown t l p seeds s u (p + 1)
+  pub seeded : (s u : Members) (wanted : Bool) → p ≢ 0 → p ≢ length l → B p → SeedsStepped t l p seeds s u (p + 1)
       → Seeded t l x B p wanted s u
-  seeded s u wanted a b may sown = record {
-    good = sown.good;
-    size = sown.size;
-    closed = sown.closed;
-    ordered = sown.ordered;
-    kept = sown.kept;
+  seeded s u wanted a b may seeded = record {
+    good = seeded.good;
+    size = seeded.size;
+    closed = seeded.closed;
+    ordered = seeded.ordered;
+    kept = seeded.kept;
     fresh = λ q z h.
-        let f = sown.fresh q z h in
+        let f = seeded.fresh q z h in
         (f.0, may, λ m j run. let w = f.1.2 m j run in are.leads l p f.1.0 f.1.1 w.0 j w.1);
     here = λ w may' n j run past.
-        passes s u a b sown n are.first.0 j are.first.1 (subst (λ r. Runs t l n r p j) (sym are.first.2) run) past;
+        passes s u a b seeded n are.first.0 j are.first.1 (subst (λ r. Runs t l n r p j) (sym are.first.2) run) past;
   }
 
 -- and nothing is where no start is wanted, or none may be there
@@ -264,7 +266,8 @@ unseeded t l x p B s wanted good closed ordered none = record {
 }
 
 -- the same for the search without marks: the targets from place `first` to before place k were added
-pub record Planting (t : List State) (seeds targets : List ℕ) (b : ℕ) (old new : Members) (first k : ℕ) : Type 0 where
+pub record SeedsMoving (t : List State) (seeds targets : List ℕ) (b : ℕ) (old new : Members)
+    (first k : ℕ) : Type 0 where
   pub good : IsGood new
   pub size : length new.marks ≡ length old.marks
   pub kept : (r : ℕ) → Has old r → Has new r
@@ -274,11 +277,11 @@ pub record Planting (t : List State) (seeds targets : List ℕ) (b : ℕ) (old n
   pub counted : Counted old new
 
 module _ (t : List State) (seeds targets : List ℕ) (b : ℕ) (s : Members) (first : ℕ) where
-  pub planting_next : (u v : Members) (k : ℕ) → Planting t seeds targets b s u first k
+  pub seeds_moving_next : (u v : Members) (k : ℕ) → SeedsMoving t seeds targets b s u first k
       → Inserted u v (slice_index targets k) 1 → Counted u v
       → (n : ℕ) × (n < length seeds) × Reads (slice_get t (slice_index seeds n)) b (slice_index targets k)
-      → Planting t seeds targets b s v first (k + 1)
-  planting_next u v k a ins counted w = record {
+      → SeedsMoving t seeds targets b s v first (k + 1)
+  seeds_moving_next u v k a ins counted w = record {
     good = ins.good;
     size = ins.size ∙ a.size;
     kept = λ r h. let y = a.kept r h in let e = ins.kept r y in omega arith;
@@ -295,10 +298,10 @@ module _ (t : List State) (seeds targets : List ℕ) (b : ℕ) (s : Members) (fi
     counted = omega (arith, a.counted, counted);
   }
 
-  pub planted : (u : Members) (k : ℕ) (cuts : List ℕ) → Planting t seeds targets b s u first k
+  pub seeds_moved : (u : Members) (k : ℕ) (cuts : List ℕ) → SeedsMoving t seeds targets b s u first k
       → StartsBelow t seeds targets cuts 256 → b < 256 → first ≡ slice_index cuts b → slice_index cuts (b + 1) ≤ k
-      → Planted t seeds b s u
-  planted u k cuts a starts byte low high = record {
+      → SeedsMoved t seeds b s u
+  seeds_moved u k cuts a starts byte low high = record {
     good = a.good;
     size = a.size;
     kept = a.kept;
@@ -311,15 +314,15 @@ module _ (t : List State) (seeds targets : List ℕ) (b : ℕ) (s : Members) (fi
 
 -- the step whole, without marks
 module _ (t : List State) (seeds : List ℕ) (b : ℕ) (begins : Bool) (now : Members) (good : IsGood now) where
-  aimed_at : (next : Members) → Aimed t b now next now.len → (q r : ℕ) → Has now q → Reads (slice_get t q) b r
+  moved_at : (next : Members) → Moved t b now next now.len → (q r : ℕ) → Has now q → Reads (slice_get t q) b r
       → Has next r
-  aimed_at next a q r h read =
+  moved_at next a q r h read =
       let f = good.found q h in
       a.goes f.0 r f.1 f.1 (subst (λ v. Reads (slice_get t v) b r) (sym f.2) read)
 
-  pub gone_on : (next sown after : Members) → Aimed t b now next now.len → Planted t seeds b next sown
-      → Closed t false false sown after → IsTrue begins → GoesOn t seeds b (IsTrue begins) (Has now) (Has after)
-  gone_on next sown after a p c is = record {
+  pub gone_on : (next seeded after : Members) → Moved t b now next now.len → SeedsMoved t seeds b next seeded
+      → Closed t false false seeded after → IsTrue begins → GoesOn t seeds b (IsTrue begins) (Has now) (Has after)
+  gone_on next seeded after a p c is = record {
     comes = λ r h.
         let w = c.fresh r h in
         elim (cases_lt 0 (mark next w.0)) [
@@ -329,7 +332,7 @@ module _ (t : List State) (seeds : List ℕ) (b : ℕ) (begins : Bool) (now : Me
               (slice_index seeds f.0, w.0, inr (is, (f.0, f.1, refl)), f.2, w.2)
         ];
     goes = λ q r h read. elim h [
-      | inl old ↦ c.kept r (p.kept r (aimed_at next a q r old read))
+      | inl old ↦ c.kept r (p.kept r (moved_at next a q r old read))
       | inr seed ↦
           let k = seed.1 in
           c.kept r (p.here k.0 r k.1 (subst (λ v. Reads (slice_get t v) b r) (sym k.2) read))
@@ -337,12 +340,12 @@ module _ (t : List State) (seeds : List ℕ) (b : ℕ) (begins : Bool) (now : Me
     still = c.still;
   }
 
-  pub gone_plainly : (next after : Members) → Aimed t b now next now.len → Closed t false false next after
+  pub gone_plainly : (next after : Members) → Moved t b now next now.len → Closed t false false next after
       → begins ≡ false → GoesOn t seeds b (IsTrue begins) (Has now) (Has after)
   gone_plainly next after a c is_not = record {
     comes = λ r h. let w = c.fresh r h in let g = a.comes w.0 w.1 in (g.0, w.0, inl g.1, g.2, w.2);
     goes = λ q r h read. elim h [
-      | inl old ↦ c.kept r (aimed_at next a q r old read)
+      | inl old ↦ c.kept r (moved_at next a q r old read)
       | inr seed ↦ absurd (true≢false (sym seed.0 ∙ is_not))
     ];
     still = c.still;

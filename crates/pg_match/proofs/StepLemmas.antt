@@ -7,7 +7,7 @@ use Rattle.pg_bytes.specs.ByteSets.{bytes}
 use Rattle.pg_bytes.specs.declared.byte_set.ByteSet.{ByteSet}
 use Rattle.pg_match.specs.Automata.{Nfa, Edge}
 use Rattle.pg_match.specs.StateSets.{Members, mark, listed, IsGood, IsEmpty, Inserted, Counted}
-use Rattle.pg_match.specs.Steps.{Still, Reads, LeadsStill, Has, HasStill, Spread, Closed, Aimed, Goes, Starts}
+use Rattle.pg_match.specs.Steps.{Still, Reads, LeadsStill, Has, HasStill, Spread, Closed, Moved, Goes, Starts}
 use Rattle.pg_match.specs.Steps.{ReadsNone, begins_after}
 use Rattle.pg_match.specs.declared.state.State.{State}
 use Rattle.pg_match.specs.declared.state.State.TheVariants.{Fail, Accept, Jump, Read, AtBegin, AtEnd, Split}
@@ -211,18 +211,18 @@ reads_none (Some (AtEnd x)) b r not_so h = h
 reads_none (Some (Split x y)) b r not_so h = h
 
 module _ (t : List State) (b : ℕ) (now : Members) where
-  pub aimed_first : (next : Members) → IsGood next → IsEmpty next → length next.marks ≡ length now.marks
-      → Aimed t b now next 0
-  aimed_first next good empty size = record {
+  pub moved_first : (next : Members) → IsGood next → IsEmpty next → length next.marks ≡ length now.marks
+      → Moved t b now next 0
+  moved_first next good empty size = record {
     good = good;
     size = size;
     comes = λ r h. let z = empty.1 r in absurd (omega arith);
     goes = λ j r lt. absurd (omega arith);
   }
 
-  pub aimed_over : (next : Members) (k : ℕ) → Aimed t b now next k
-      → ((r : ℕ) → Reads (slice_get t (listed now k)) b r → ⊥) → Aimed t b now next (k + 1)
-  aimed_over next k a none = record {
+  pub moved_over : (next : Members) (k : ℕ) → Moved t b now next k
+      → ((r : ℕ) → Reads (slice_get t (listed now k)) b r → ⊥) → Moved t b now next (k + 1)
+  moved_over next k a none = record {
     good = a.good;
     size = a.size;
     comes = a.comes;
@@ -232,11 +232,11 @@ module _ (t : List State) (b : ℕ) (now : Members) where
     ];
   }
 
-  pub aimed_next : (next after : Members) (k : ℕ) (s : ByteSet) (x : ℕ) → Aimed t b now next k → k < now.len
+  pub moved_next : (next after : Members) (k : ℕ) (s : ByteSet) (x : ℕ) → Moved t b now next k → k < now.len
       → IsGood now
       → slice_get t (listed now k) ≡ Some (Read s x) → bytes s b ≡ true → Inserted next after x 1
-      → Aimed t b now after (k + 1)
-  aimed_next next after k s x a lt good is is_so ins =
+      → Moved t b now after (k + 1)
+  moved_next next after k s x a lt good is is_so ins =
       let to_x : Reads (slice_get t (listed now k)) b x = subst (λ o. Reads o b x) (sym is) (is_so, refl) in
       record {
         good = ins.good;
@@ -256,18 +256,18 @@ module _ (t : List State) (b : ℕ) (now : Members) where
         ];
       }
 
-  pub aimed_none : (k : ℕ) (st : State) → slice_get t (listed now k) ≡ Some st
+  pub moved_none : (k : ℕ) (st : State) → slice_get t (listed now k) ≡ Some st
       → ((s : ByteSet) (x : ℕ) → st ≡ Read s x → ⊥)
       → (r : ℕ) → Reads (slice_get t (listed now k)) b r → ⊥
-  aimed_none k st is not_so r h = reads_none (slice_get t (listed now k)) b r (λ s x e. not_so s x (cc)) h
+  moved_none k st is not_so r h = reads_none (slice_get t (listed now k)) b r (λ s x e. not_so s x (cc)) h
 
-  pub aimed_refused : (k : ℕ) (s : ByteSet) (x : ℕ) → slice_get t (listed now k) ≡ Some (Read s x) → bytes s b ≡ false
+  pub moved_refused : (k : ℕ) (s : ByteSet) (x : ℕ) → slice_get t (listed now k) ≡ Some (Read s x) → bytes s b ≡ false
       → (r : ℕ) → Reads (slice_get t (listed now k)) b r → ⊥
-  aimed_refused k s x is not_so r h = true≢false (sym (subst (λ o. Reads o b r) is h).0 ∙ not_so)
+  moved_refused k s x is not_so r h = true≢false (sym (subst (λ o. Reads o b r) is h).0 ∙ not_so)
 
 -- the step whole
 module _ (m : Nfa) (b : ℕ) (now : Members) (good : IsGood now) where
-  gone : (next seeded after : Members) → Aimed m.states b now next now.len
+  gone : (next seeded after : Members) → Moved m.states b now next now.len
       → ((r : ℕ) → Has next r → Has seeded r)
       → ((r : ℕ) → Has seeded r → Has next r ⊎ (IsTrue (begins_after m.bounds b) × (r ≡ m.start)))
       → (IsTrue (begins_after m.bounds b) → Has seeded m.start)
@@ -275,7 +275,7 @@ module _ (m : Nfa) (b : ℕ) (now : Members) (good : IsGood now) where
   gone next seeded after a kept split here c = record {
     comes = λ r h. let w = c.fresh r h in
         elim (split w.0 w.1) [
-          | inl aimed ↦ let g = a.comes w.0 aimed in inl (g.0, w.0, g.1, g.2, w.2)
+          | inl moved ↦ let g = a.comes w.0 moved in inl (g.0, w.0, g.1, g.2, w.2)
           | inr start ↦ inr (start.0, subst (λ q. LeadsStill m.states false false q r) start.1 w.2)
         ];
     goes = λ q r h read. let f = good.found q h in
@@ -284,7 +284,7 @@ module _ (m : Nfa) (b : ℕ) (now : Members) (good : IsGood now) where
     still = c.still;
   }
 
-  pub gone_seeded : (next seeded after : Members) → Aimed m.states b now next now.len → begins_after m.bounds b ≡ true
+  pub gone_seeded : (next seeded after : Members) → Moved m.states b now next now.len → begins_after m.bounds b ≡ true
       → Inserted next seeded m.start 1 → Closed m.states false false seeded after → Goes m b (Has now) (Has after)
   gone_seeded next seeded after a is_so ins c =
       gone next seeded after a (λ r h. let k = ins.kept r h in omega arith)
@@ -292,14 +292,14 @@ module _ (m : Nfa) (b : ℕ) (now : Members) (good : IsGood now) where
       [ inl old ↦ inl old | inr none ↦ let f = ins.fresh r (omega arith) h in inr (is_so, f.0) ])
       (λ z. ins.here) c
 
-  pub gone_plain : (next after : Members) → Aimed m.states b now next now.len → begins_after m.bounds b ≡ false
+  pub gone_plain : (next after : Members) → Moved m.states b now next now.len → begins_after m.bounds b ≡ false
       → Closed m.states false false next after → Goes m b (Has now) (Has after)
   gone_plain next after a not_so c = gone next next after a (λ r h. h) (λ r h. inl h)
       (λ is_so. absurd (true≢false (sym is_so ∙ not_so))) c
 
-pub aimed_at_none : (m : Nfa) (b : ℕ) (now next : Members) → IsGood now → Aimed m.states b now next now.len
+pub moved_at_none : (m : Nfa) (b : ℕ) (now next : Members) → IsGood now → Moved m.states b now next now.len
     → next.len ≡ 0 → ReadsNone m b (Has now)
-aimed_at_none m b now next good a none q r h read =
+moved_at_none m b now next good a none q r h read =
     let f = good.found q h in
     let there = a.goes f.0 r f.1 f.1 (subst (λ v. Reads (slice_get m.states v) b r) (sym f.2) read) in
     let k = a.good.found r there in

@@ -10,8 +10,8 @@ use Rattle.pg_match.specs.declared.dfa_cursor.Crossed.TheVariants.{Found, At}
 use Rattle.pg_match.specs.declared.dfa_cursor.Cursor.{Cursor}
 use Rattle.pg_match.specs.declared.dfa_search.Next.{Next}
 use Rattle.pg_match.specs.declared.dfa_search.Next.TheVariants.{Hit, Row, Lost, Dead}
-use Rattle.pg_match.specs.declared.dfa_starts.Skim.{Skim}
-use Rattle.pg_match.specs.declared.dfa_starts.Skim.TheVariants.{NoHit, Known, Unknown}
+use Rattle.pg_match.specs.declared.dfa_starts.Scan.{Scan}
+use Rattle.pg_match.specs.declared.dfa_starts.Scan.TheVariants.{NoHit, Known, Unknown}
 
 -- Row r has the steps from 256 * r on, one for each byte, the r-th answer at a line's end, and whether it is fresh, and
 -- its states lie between two cuts of the pool. Row 0 has no state, and row 1 is that of a line's first place.
@@ -150,7 +150,7 @@ Finishes m b S answer =
     → IsTrue answer ↔ HasRun m l from
 
 -- the row of a walk's state is the set of the place, and no hit begins from one place on before another
-pub record HasSkimmed (m : Nfa) (t : Remembered) (l : List ℕ) (from p state start : ℕ) : Type 0 where
+pub record HasScanned (m : Nfa) (t : Remembered) (l : List ℕ) (from p state start : ℕ) : Type 0 where
   pub within : p < length l
   pub near : from ≤ p + 1
   pub row : IsAtRow t state
@@ -161,10 +161,10 @@ pub record HasSkimmed (m : Nfa) (t : Remembered) (l : List ℕ) (from p state st
 
 -- What the remembered rows tell of the hits of a line from a place on: that there are none, or that none begins before
 -- another place.
-abbrev pub Skimmed : Nfa → List ℕ → ℕ → Skim → Type 0
-Skimmed m l from NoHit = HasRun m l from → ⊥
-Skimmed m l from (Known start) = (from ≤ start) × (start ≤ length l) × NoneBefore m l from start
-Skimmed m l from (Unknown start) = (from ≤ start) × (start ≤ length l) × NoneBefore m l from start
+abbrev pub Scanned : Nfa → List ℕ → ℕ → Scan → Type 0
+Scanned m l from NoHit = HasRun m l from → ⊥
+Scanned m l from (Known start) = (from ≤ start) × (start ≤ length l) × NoneBefore m l from start
+Scanned m l from (Unknown start) = (from ≤ start) × (start ≤ length l) × NoneBefore m l from start
 
 -- the cursor's row is the set of its place, for the runs that began at `from` or behind it
 pub record IsCursor (m : Nfa) (t : Remembered) (l : List ℕ) (c : Cursor) : Type 0 where

@@ -45,7 +45,8 @@ pub record AreStarts (t : List State) (seeds targets cuts : List ℕ) (ends : Bo
   pub accepts : IsTrue ends ↔ HasEnd seeds
 
 -- what the byte at i leads to from the seeds was added to the set behind it, with this mark
-pub record Sown (t : List State) (l : List ℕ) (i : ℕ) (seeds : List ℕ) (old new : Members) (start : ℕ) : Type 0 where
+pub record SeedsStepped (t : List State) (l : List ℕ) (i : ℕ) (seeds : List ℕ) (old new : Members)
+    (start : ℕ) : Type 0 where
   pub good : IsGood new
   pub size : length new.marks ≡ length old.marks
   pub closed : IsClosed t l (i + 1) new
@@ -58,7 +59,7 @@ pub record Sown (t : List State) (l : List ℕ) (i : ℕ) (seeds : List ℕ) (ol
   pub counted : Counted old new
 
 -- the states that the byte leads to from the seeds were added, without what these lead to
-pub record Planted (t : List State) (seeds : List ℕ) (b : ℕ) (old new : Members) : Type 0 where
+pub record SeedsMoved (t : List State) (seeds : List ℕ) (b : ℕ) (old new : Members) : Type 0 where
   pub good : IsGood new
   pub size : length new.marks ≡ length old.marks
   pub kept : (r : ℕ) → Has old r → Has new r

@@ -73,7 +73,7 @@ pub record Closed (t : List State) (first last : Bool) (old new : Members) : Typ
   pub counted : Counted old new
 
 -- the states that the byte leads to from the first k states, without what these lead to
-pub record Aimed (t : List State) (b : ℕ) (now next : Members) (k : ℕ) : Type 0 where
+pub record Moved (t : List State) (b : ℕ) (now next : Members) (k : ℕ) : Type 0 where
   pub good : IsGood next
   pub size : length next.marks ≡ length now.marks
   pub comes : (r : ℕ) → Has next r → (q : ℕ) × Has now q × Reads (slice_get t q) b r

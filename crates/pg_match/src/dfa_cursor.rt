@@ -9,7 +9,7 @@ ghost use Rattle.pg_match.specs.Views.{nfa, members, buffers, remembered, Tells,
 use crate::automaton::Automaton;
 use crate::dfa_cache::{Cache, LOST};
 use crate::dfa_search::Next;
-use crate::dfa_starts::Skim;
+use crate::dfa_starts::Scan;
 use crate::search::StateSets;
 use std::alloc::Allocator;
 
@@ -95,9 +95,9 @@ impl<A: Allocator> Automaton<A> {
         ensures visits { sets.new.visits ≤ (reached (length line.now) result + 1) * length self.now.states.items }
         ensures told { Tells sets.old sets.new }
     {
-        let start = match self.skim(memory, line, cursor.from) {
-            Skim::NoHit => return Crossed::Found(false),
-            Skim::Known(start) | Skim::Unknown(start) => start,
+        let start = match self.scan(memory, line, cursor.from) {
+            Scan::NoHit => return Crossed::Found(false),
+            Scan::Known(start) | Scan::Unknown(start) => start,
         };
         if start > 0 && sets.visits <= start as u128 * self.states.len() as u128 {
             sets.current.clear();

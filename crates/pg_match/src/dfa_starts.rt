@@ -8,7 +8,7 @@ ghost use Rattle.pg_match.specs.StateSets.{HaveRoom};
 ghost use Rattle.pg_match.specs.Searches.{IsBest};
 ghost use Rattle.pg_match.specs.Closures.{AreSeeds};
 ghost use Rattle.pg_match.specs.Steps.{EndsBehind};
-ghost use Rattle.pg_match.specs.Memories.{IsMemoryOf, HasSkimmed, Skimmed};
+ghost use Rattle.pg_match.specs.Memories.{IsMemoryOf, HasScanned, Scanned};
 ghost use Rattle.pg_match.specs.Views.{nfa, buffers, remembered, added, Remembers, IsBuilt};
 ghost use Rattle.pg_match.specs.Views.{RemembersAnchored, Tells};
 
@@ -21,7 +21,7 @@ use std::alloc::Allocator;
 
 /// What is known of the hits from a place on.
 #[derive(Clone, Copy)]
-pub(crate) enum Skim {
+pub(crate) enum Scan {
     /// There are none.
     NoHit,
     /// There is one, which may be empty, and none begins before this place.
@@ -44,8 +44,8 @@ impl<A: Allocator> Automaton<A> {
     ) -> (u32, usize, usize)
         requires built { IsBuilt self.now }
         requires memory { IsMemoryOf (nfa self.now) (remembered memory.now) }
-        requires skimmed { HasSkimmed (nfa self.now) (remembered memory.now) line.now from place state from }
-        ensures { HasSkimmed (nfa self.now) (remembered memory.now) line.now from result.1 result.0 result.2 }
+        requires scanned { HasScanned (nfa self.now) (remembered memory.now) line.now from place state from }
+        ensures { HasScanned (nfa self.now) (remembered memory.now) line.now from result.1 result.0 result.2 }
     {
         let mut at = state;
         let mut here = place;
@@ -83,15 +83,15 @@ impl<A: Allocator> Automaton<A> {
     }
 
     /// Looks for hits from a place on in a line that isn't empty, by what is remembered.
-    pub(crate) fn skim(&self, memory: &Cache<A>, line: &[u8], from: usize) -> Skim
+    pub(crate) fn scan(&self, memory: &Cache<A>, line: &[u8], from: usize) -> Scan
         requires built { IsBuilt self.now }
         requires memory { IsMemoryOf (nfa self.now) (remembered memory.now) }
         requires bytes { 1 ≤ length line.now }
         requires from_in { from ≤ length line.now }
-        ensures { Skimmed (nfa self.now) line.now from result }
+        ensures { Scanned (nfa self.now) line.now from result }
     {
         if memory.count == 0 {
-            return Skim::Unknown(from);
+            return Scan::Unknown(from);
         }
         let first = if from == 0 { 256 } else { 0 };
         let (mut state, mut place, mut start) = self.follow_rows(
@@ -104,13 +104,13 @@ impl<A: Allocator> Automaton<A> {
         while place + 1 < line.len() {
             let next = memory.steps[state as usize + line[place] as usize];
             if next == HIT {
-                return Skim::Known(start);
+                return Scan::Known(start);
             }
             if next == DEAD {
-                return Skim::NoHit;
+                return Scan::NoHit;
             }
             if next < 256 {
-                return Skim::Unknown(start);
+                return Scan::Unknown(start);
             }
             state = next;
             place += 1;
@@ -119,9 +119,9 @@ impl<A: Allocator> Automaton<A> {
             }
         }
         match self.recall_end(memory, state, line[place]) {
-            Some(false) => Skim::NoHit,
-            Some(true) => Skim::Known(start),
-            None => Skim::Unknown(start),
+            Some(false) => Scan::NoHit,
+            Some(true) => Scan::Known(start),
+            None => Scan::Unknown(start),
         }
     }
 
@@ -236,20 +236,20 @@ impl<A: Allocator> Automaton<A> {
         ensures visits { sets.new.visits ≤ (length line.now + 1) * length self.now.states.items }
         ensures told { added sets.new ≡ added sets.old + sets.new.visits }
     {
-        match self.skim(memory, line, from) {
-            Skim::NoHit => {
+        match self.scan(memory, line, from) {
+            Scan::NoHit => {
                 sets.visits = 0;
                 None
             }
-            Skim::Known(start) if self.is_one_byte(line, start) => {
+            Scan::Known(start) if self.is_one_byte(line, start) => {
                 sets.visits = 0;
                 Some((start, start + 1))
             }
-            Skim::Known(start) => match anchored {
+            Scan::Known(start) => match anchored {
                 Some(anchored) => self.find_from(sets, memory, anchored, line, start),
                 None => self.find(sets, line, start),
             },
-            Skim::Unknown(start) => {
+            Scan::Unknown(start) => {
                 let best = self.find(sets, line, start);
                 self.study(sets, memory, line, from);
                 best

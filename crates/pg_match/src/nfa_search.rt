@@ -2,10 +2,10 @@
 ghost use Rattle.std.specs.Prelude.{◌≡◌, ℕ, ◌+◌, ◌*◌, ◌<◌, ◌≤◌, ◌^◌, ◌↔◌, length, IsTrue, IsNone, true, false};
 ghost use Rattle.pg_match.specs.Automata.{IsTidy};
 ghost use Rattle.pg_match.specs.StateSets.{IsGood, HaveRoom, CountedAnew};
-ghost use Rattle.pg_match.specs.Steps.{Spread, Closed, Aimed, Has, Goes, Starts, HitBefore, AnswersEnd, ReadsNone};
+ghost use Rattle.pg_match.specs.Steps.{Spread, Closed, Moved, Has, Goes, Starts, HitBefore, AnswersEnd, ReadsNone};
 ghost use Rattle.pg_match.specs.Steps.{begins_after, ends_before};
 ghost use Rattle.pg_match.specs.Stands.{HasRun};
-ghost use Rattle.pg_match.specs.Starts.{WithSeeds, Planted, GoesOn, StandsUnseeded, Searched};
+ghost use Rattle.pg_match.specs.Starts.{WithSeeds, SeedsMoved, GoesOn, StandsUnseeded, Searched};
 ghost use Rattle.pg_match.specs.Views.{nfa, members, buffers, Tells, IsBuilt};
 
 use crate::automaton::Automaton;
@@ -67,13 +67,13 @@ fn close<A: Allocator>(states: &[State], set: &mut StateSet<A>, first: bool, las
 }
 
 /// Makes the set of the states that a byte leads to.
-fn aim<A: Allocator>(states: &[State], byte: u8, current: &StateSet<A>, next: &mut StateSet<A>)
+fn move_by<A: Allocator>(states: &[State], byte: u8, current: &StateSet<A>, next: &mut StateSet<A>)
     requires tidy { IsTidy states.now }
     requires good { IsGood (members current.now) }
     requires size { length current.now.marks.items ≡ length states.now }
     requires next_good { IsGood (members next.old) }
     requires next_size { length next.old.marks.items ≡ length states.now }
-    ensures aimed { Aimed states.now byte (members current.now) (members next.new) current.now.len }
+    ensures moved { Moved states.now byte (members current.now) (members next.new) current.now.len }
     ensures counted { CountedAnew (members next.old) (members next.new) }
 {
     next.clear();
@@ -138,7 +138,7 @@ impl<A: Allocator> Automaton<A> {
         ensures visits { sets.new.visits ≡ sets.old.visits + sets.new.current.len }
         ensures told { Tells sets.old sets.new }
     {
-        aim(&self.states, byte, &sets.current, &mut sets.next);
+        move_by(&self.states, byte, &sets.current, &mut sets.next);
         let is_fresh = sets.next.len == 0;
         mem::swap(&mut sets.current, &mut sets.next);
         if begins_after(self.bounds, byte) {
@@ -175,11 +175,11 @@ impl<A: Allocator> Automaton<A> {
     }
 
     /// Adds the states that a byte leads to from the seeds.
-    fn plant(&self, next: &mut StateSet<A>, byte: u8)
+    fn move_seeds(&self, next: &mut StateSet<A>, byte: u8)
         requires built { IsBuilt self.now }
         requires good { IsGood (members next.old) }
         requires size { length next.old.marks.items ≡ length self.now.states.items }
-        ensures { Planted self.now.states.items self.now.seeds.items byte (members next.old) (members next.new) }
+        ensures { SeedsMoved self.now.states.items self.now.seeds.items byte (members next.old) (members next.new) }
     {
         let (first, last) = self.starts.row(byte);
         for k in first..last {
@@ -200,9 +200,9 @@ impl<A: Allocator> Automaton<A> {
         ensures visits { sets.new.visits ≡ sets.old.visits + sets.new.current.len }
         ensures told { Tells sets.old sets.new }
     {
-        aim(&self.states, byte, &sets.current, &mut sets.next);
+        move_by(&self.states, byte, &sets.current, &mut sets.next);
         if begins {
-            self.plant(&mut sets.next, byte);
+            self.move_seeds(&mut sets.next, byte);
         }
         mem::swap(&mut sets.current, &mut sets.next);
         close(&self.states, &mut sets.current, false, false);

@@ -4,7 +4,7 @@ ghost use Rattle.std.specs.Prelude.{length, is_none, IfOk, None};
 ghost use Rattle.pg_pattern.specs.Bounds.{MayBegin, MayEnd};
 ghost use Rattle.pg_match.specs.StateSets.{IsGood, HaveRoom};
 ghost use Rattle.pg_match.specs.Closures.{IsClosed, IsOrdered, AllBelow};
-ghost use Rattle.pg_match.specs.Starts.{Sown};
+ghost use Rattle.pg_match.specs.Starts.{SeedsStepped};
 ghost use Rattle.pg_match.specs.Searches.{Alive, Advanced, IsBest, start_bound, judged, limit_of, ending};
 ghost use Rattle.pg_match.specs.Views.{nfa, members, buffers, added, Tells, IsBuilt};
 
@@ -123,7 +123,7 @@ impl<A: Allocator> Automaton<A> {
 
     /// Adds what the byte at a place leads to from a start there.
     #[inline(always)]
-    fn sow(&self, line: &[u8], place: usize, next: &mut StateSet<A>)
+    fn step_seeds(&self, line: &[u8], place: usize, next: &mut StateSet<A>)
         requires built { IsBuilt self.now }
         requires good { IsGood (members next.old) }
         requires size { length next.old.marks.items ≡ length self.now.states.items }
@@ -132,8 +132,8 @@ impl<A: Allocator> Automaton<A> {
         requires below { AllBelow (members next.old) (place + 1) }
         requires place { place < length line.now }
         requires short { length line.now ≤ 2 ^ 30 }
-        ensures { Sown self.now.states.items line.now place self.now.seeds.items (members next.old) (members next.new)
-            (place + 1) }
+        ensures { SeedsStepped self.now.states.items line.now place self.now.seeds.items
+            (members next.old) (members next.new) (place + 1) }
     {
         let mark = place as u32 + 1;
         let (first, last) = self.starts.row(line[place]);
@@ -175,7 +175,7 @@ impl<A: Allocator> Automaton<A> {
             limit(best),
         );
         if place > 0 && best.is_none() && self.bounds.may_begin(line, place) {
-            self.sow(line, place, &mut sets.next);
+            self.step_seeds(line, place, &mut sets.next);
         }
         mem::swap(&mut sets.current, &mut sets.next);
         sets.visits += sets.current.len as u128;

@@ -86,8 +86,8 @@ impl<A: Allocator> WholeStrings<A> {
         Ok(whole)
     }
 
-    /// Whether a chain by first bytes is long, and comparing its strings takes longer than to look for each length by all
-    /// its bytes.
+    /// Whether a chain by first bytes is long, and comparing its strings takes longer than to look for each length by
+    /// all its bytes.
     pub fn is_long(&self, chain: usize) -> bool {
         match self.counts.get(chain) {
             Some(count) => {

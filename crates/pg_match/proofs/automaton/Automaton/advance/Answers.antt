@@ -30,10 +30,10 @@ returns-clause-advanced g c =
     elim c.if-place-gt0.branch [
       | then-place-gt0+then-is_none+then-may_begin w ↦
           let some : 0 < p = w.if-place-gt0.true in
-          let sown = seeded m.states l x p B c.args.self.now.seeds.items c.requires.built.seeds mid _ wanted
+          let seeded = seeded m.states l x p B c.args.self.now.seeds.items c.requires.built.seeds mid _ wanted
           (λ e. omega arith) (λ e. omega (arith, c.requires.place)) (w.may_begin.ensures.0 w.if-may_begin.true)
-          w.sow.ensures in
-          rw (c.swap.ensures.x_after, w.sets-is) (mid, step, inr (some, sown))
+          w.step_seeds.ensures in
+          rw (c.swap.ensures.x_after, w.sets-is) (mid, step, inr (some, seeded))
       | else-place-gt0 w ↦
           rw (c.swap.ensures.x_after, w.sets-is) (
             mid,

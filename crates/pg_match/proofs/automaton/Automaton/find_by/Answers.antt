@@ -1,6 +1,6 @@
 use Rattle.std.proofs.Common.{◌+◌, Some}
 use Rattle.pg_match.specs.Views.{nfa}
-use Rattle.pg_match.proofs.SkimLemmas.{best_none, best_later}
+use Rattle.pg_match.proofs.ScanLemmas.{best_none, best_later}
 use Rattle.pg_match.proofs.automaton.Automaton.find_by.Goals as goal
 
 pub returns-in-NoHit-clause-best : goal.returns-in-NoHit-clause-best

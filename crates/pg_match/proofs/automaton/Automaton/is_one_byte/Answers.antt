@@ -2,7 +2,7 @@ use Rattle.std.proofs.Common.{◌∙◌, ◌+◌, get_or, arith, sym, true≢fal
 use Rattle.std.proofs.lemmas.Option.{slice_get-get_or}
 use Rattle.pg_pattern.specs.Bounds.{MayBegin, MayEnd}
 use Rattle.pg_match.specs.Views.{nfa}
-use Rattle.pg_match.proofs.SkimLemmas.{best_one}
+use Rattle.pg_match.proofs.ScanLemmas.{best_one}
 use Rattle.pg_match.proofs.automaton.Automaton.is_one_byte.Goals as goal
 use Rattle.pg_match.proofs.automaton.Automaton.is_one_byte.Goals.{then-may_begin, else-may_begin}
 

@@ -16,7 +16,7 @@ use Rattle.pg_match.proofs.automaton.Automaton.leave.Goals.{in-Known, in-Known-2
 pub go_without-requires-clause-stands : goal.go_without-requires-clause-stands
 go_without-requires-clause-stands g c =
     stands_begun (nfa c.args.self.now) c.args.self.now.seeds.items c.requires.built.seeds c.args.line.now
-    c.match-skim.start
+    c.match-scan.start
     (Has (members c.clear.new.self)) (omega (arith, c.if-start-gt0.true))
     (λ q h. (let e = c.clear.ensures.empty.1 q in omega arith))
 
@@ -25,8 +25,8 @@ returns-then-sets-start-clause-crossed g c =
     let m = nfa c.args.self.now in
     let l = c.args.line.now in
     let from = c.args.cursor.from in
-    let start = c.match-skim.start in
-    let known : (from ≤ start) × NoneBefore m l from start = elim c.match-skim.branch [
+    let start = c.match-scan.start in
+    let known : (from ≤ start) × NoneBefore m l from start = elim c.match-scan.branch [
       | in-Known w ↦ rw w.start-is (w.in-Known.ensures.0, w.in-Known.ensures.2)
       | in-Known-2 w ↦ rw w.start-is (w.in-Known.ensures.0, w.in-Known.ensures.2)
     ] in
@@ -86,14 +86,14 @@ go_without-requires-2-clause-visits g c =
     (omega (arith, c.go_on.ensures.visits))
 
 pub go_without-requires-clause-within : goal.go_without-requires-clause-within
-go_without-requires-clause-within g c = elim c.match-skim.branch [
+go_without-requires-clause-within g c = elim c.match-scan.branch [
   | in-Known w ↦ rw w.start-is w.in-Known.ensures.1
   | in-Known-2 w ↦ rw w.start-is w.in-Known.ensures.1
 ]
 
 pub overflow_mul-start : goal.overflow_mul-start
 overflow_mul-start g c =
-    let within : c.match-skim.start ≤ length c.args.line.now = elim c.match-skim.branch [
+    let within : c.match-scan.start ≤ length c.args.line.now = elim c.match-scan.branch [
       | in-Known w ↦ rw w.start-is w.in-Known.ensures.1
       | in-Known-2 w ↦ rw w.start-is w.in-Known.ensures.1
     ] in

@@ -12,7 +12,7 @@ use Rattle.pg_match.specs.Closures.{AreSeeds}
 use Rattle.pg_match.specs.Searches.{IsBest}
 use Rattle.pg_match.specs.Steps.{Goes, Reads, ReadsNone, HitBefore, EndsBehind}
 use Rattle.pg_match.specs.Stands.{Stands, HasRun, NoneBefore}
-use Rattle.pg_match.specs.Memories.{Remembered, fresh_at, In, IsMemoryOf, IsAtRow, StandsAt, HasSkimmed}
+use Rattle.pg_match.specs.Memories.{Remembered, fresh_at, In, IsMemoryOf, IsAtRow, StandsAt, HasScanned}
 use Rattle.pg_match.specs.declared.state.State.{State}
 use Rattle.pg_match.specs.declared.state.State.TheVariants.{Accept}
 use Rattle.pg_match.proofs.SearchLemmas.{edge_moves}
@@ -56,10 +56,10 @@ stands_none m l from p S early empty = record {
   none = λ i j ge le lt. absurd (omega arith);
 }
 
-pub skim_first : (m : Nfa) (mem : Remembered) (l : List ℕ) (p : ℕ) → IsMemoryOf m mem → 1 ≤ mem.count → 1 ≤ length l
+pub scan_first : (m : Nfa) (mem : Remembered) (l : List ℕ) (p : ℕ) → IsMemoryOf m mem → 1 ≤ mem.count → 1 ≤ length l
     → p ≡ 0
-    → HasSkimmed m mem l 0 p 256 0
-skim_first m mem l p is some bytes e = record {
+    → HasScanned m mem l 0 p 256 0
+scan_first m mem l p is some bytes e = record {
   within = omega arith;
   near = omega arith;
   row = at_row mem 256 1 refl some;
@@ -69,10 +69,10 @@ skim_first m mem l p is some bytes e = record {
   none = λ i j ge lt. absurd (omega arith);
 }
 
-pub skim_later : (m : Nfa) (mem : Remembered) (l : List ℕ) (from p : ℕ) → IsMemoryOf m mem → from ≢ 0 → from ≤ length l
+pub scan_later : (m : Nfa) (mem : Remembered) (l : List ℕ) (from p : ℕ) → IsMemoryOf m mem → from ≢ 0 → from ≤ length l
     → p ≡ from - 1
-    → HasSkimmed m mem l from p 0 from
-skim_later m mem l from p is some within e = record {
+    → HasScanned m mem l from p 0 from
+scan_later m mem l from p is some within e = record {
   within = omega arith;
   near = omega arith;
   row = at_row mem 0 0 refl (omega arith);
@@ -86,7 +86,7 @@ module _ (m : Nfa) (mem : Remembered) (l : List ℕ) (from p at start v b : ℕ)
     (is : IsMemoryOf m mem) (lt : b < 256)
     (byte : slice_get l p ≡ Some b) (more : p + 1 < length l) (read : v ≡ slice_index mem.steps (at + b))
     (big : 256 ≤ v)
-    (s : HasSkimmed m mem l from p at start) where
+    (s : HasScanned m mem l from p at start) where
   told : IsAtRow mem v × (HitBefore m b (In mem (at / 256)) → ⊥) × Goes m b (In mem (at / 256)) (In mem (v / 256))
       × (fresh_at mem (v / 256) ≡ true → ReadsNone m b (In mem (at / 256)))
   told = row_next m mem at v b is s.row lt read big
@@ -95,8 +95,8 @@ module _ (m : Nfa) (mem : Remembered) (l : List ℕ) (from p at start v b : ℕ)
   next = stands_next m l from p b (In mem (at / 256)) (In mem (v / 256)) byte
       (omega arith) s.stands told.2 s.near is_m told.1
 
-  pub skim_on : HasSkimmed m mem l from (p + 1) v start
-  skim_on = record {
+  pub scan_on : HasScanned m mem l from (p + 1) v start
+  scan_on = record {
     within = more;
     near = let n = s.near in omega arith;
     row = told.0;
@@ -106,8 +106,8 @@ module _ (m : Nfa) (mem : Remembered) (l : List ℕ) (from p at start v b : ℕ)
     none = s.none;
   }
 
-  pub skim_fresh : fresh_at mem (v / 256) ≡ true → HasSkimmed m mem l from (p + 1) v (p + 1)
-  skim_fresh f = record {
+  pub scan_fresh : fresh_at mem (v / 256) ≡ true → HasScanned m mem l from (p + 1) v (p + 1)
+  scan_fresh f = record {
     within = more;
     near = let n = s.near in omega arith;
     row = told.0;
@@ -118,29 +118,29 @@ module _ (m : Nfa) (mem : Remembered) (l : List ℕ) (from p at start v b : ℕ)
   }
 
 -- the same, as the table and the line are read
-pub skim_read : (m : Nfa) (mem : Remembered) (l : List ℕ) (from p u at start v : ℕ) → u ≡ p + 1 → IsRunnable m
+pub scan_read : (m : Nfa) (mem : Remembered) (l : List ℕ) (from p u at start v : ℕ) → u ≡ p + 1 → IsRunnable m
     → IsMemoryOf m mem
     → get_or l p 0 < 256 → u < length l → v ≡ get_or mem.steps (at + get_or l p 0) v → 256 ≤ v
-    → HasSkimmed m mem l from p at start → HasSkimmed m mem l from u v start
-skim_read m mem l from p u at start v e is_m is lt more read big s =
+    → HasScanned m mem l from p at start → HasScanned m mem l from u v start
+scan_read m mem l from p u at start v e is_m is lt more read big s =
     let b = get_or l p 0 in
     let inside = in_table m mem at b is s.row lt in
-    subst (λ w. HasSkimmed m mem l from w v start) (sym e)
-    (skim_on m mem l from p at start v b is_m is lt (slice_get-get_or l p 0 s.within) (omega arith)
+    subst (λ w. HasScanned m mem l from w v start) (sym e)
+    (scan_on m mem l from p at start v b is_m is lt (slice_get-get_or l p 0 s.within) (omega arith)
     (get_or_read mem.steps _ v inside read 0) big s)
 
-pub skim_read_fresh : (m : Nfa) (mem : Remembered) (l : List ℕ) (from p u at start v : ℕ) (f : Bool) → u ≡ p + 1
+pub scan_read_fresh : (m : Nfa) (mem : Remembered) (l : List ℕ) (from p u at start v : ℕ) (f : Bool) → u ≡ p + 1
     → IsRunnable m → IsMemoryOf m mem
     → get_or l p 0 < 256 → u < length l → v ≡ get_or mem.steps (at + get_or l p 0) v → 256 ≤ v
     → f ≡ get_or mem.fresh (v / 256) f → f ≡ true
-    → HasSkimmed m mem l from p at start → HasSkimmed m mem l from u v u
-skim_read_fresh m mem l from p u at start v f e is_m is lt more read big fresh is_fresh s =
+    → HasScanned m mem l from p at start → HasScanned m mem l from u v u
+scan_read_fresh m mem l from p u at start v f e is_m is lt more read big fresh is_fresh s =
     let b = get_or l p 0 in
     let inside = in_table m mem at b is s.row lt in
-    let on = skim_read m mem l from p u at start v e is_m is lt more read big s in
+    let on = scan_read m mem l from p u at start v e is_m is lt more read big s in
     let in_fresh : v / 256 < length mem.fresh = omega (arith, on.row.known, is.shape.few, is.shape.fresh_size) in
-    subst (λ w. HasSkimmed m mem l from w v w) (sym e)
-    (skim_fresh m mem l from p at start v b is_m is lt (slice_get-get_or l p 0 s.within) (omega arith)
+    subst (λ w. HasScanned m mem l from w v w) (sym e)
+    (scan_fresh m mem l from p at start v b is_m is lt (slice_get-get_or l p 0 s.within) (omega arith)
     (get_or_read mem.steps _ v inside read 0) big s
     (sym (get_or_read mem.fresh (v / 256) f in_fresh fresh false) ∙ is_fresh))
 

@@ -4,9 +4,9 @@ use Rattle.std.proofs.lemmas.Option.{slice_get-get_or}
 use Rattle.std.specs.Prelude.{slice_get, slice_index}
 use Rattle.pg_match.specs.Closures.{Reached}
 use Rattle.pg_match.specs.Views.{members}
-use Rattle.pg_match.proofs.StartLemmas.{sowing_next, sown, read_inside}
+use Rattle.pg_match.proofs.StartLemmas.{seeds_stepping_next, seeded, read_inside}
 use Rattle.pg_match.proofs.StandsLemmas.{reads_edge}
-use Rattle.pg_match.proofs.automaton.Automaton.sow.Goals as goal
+use Rattle.pg_match.proofs.automaton.Automaton.step_seeds.Goals as goal
 
 pub reach-requires-clause-within : goal.reach-requires-clause-within
 reach-requires-clause-within g c =
@@ -42,7 +42,7 @@ loop-k-preserved g c =
     let u = members c.loop-k.next in
     let v = members c.reach.new.set in
     let reached = rw c.deref.ensures.value at c.reach.ensures.reached in
-    sowing_next t l p m.seeds.items targets (members c.args.next.now) (p + 1) c.row-first.result.0 u v k
+    seeds_stepping_next t l p m.seeds.items targets (members c.args.next.now) (p + 1) c.row-first.result.0 u v k
     c.loop-k.invariant (subst (λ q. Reached t l (p + 1) u v q (p + 1)) read reached) w.0 w.1
     (reads_edge (slice_get t (slice_index m.seeds.items w.0)) l p b (slice_index targets k) is w.2)
 
@@ -54,7 +54,7 @@ returns g c =
     let b = slice_index l p in
     let byte : b < 256 = omega (arith, c.type_inv.line p) in
     let is = slice_get-get_or l p 0 c.requires.place in
-    sown m.states.items l p m.seeds.items m.starts.targets.items (members c.args.next.now) (p + 1)
+    seeded m.states.items l p m.seeds.items m.starts.targets.items (members c.args.next.now) (p + 1)
     c.row-first.result.0 (members c.loop-k.next) c.loop-k.k b m.starts.cuts.items c.loop-k.invariant
     c.requires.built.starts.below byte is c.row-first.ensures.first
     (omega (arith, c.row-first.ensures.last, c.loop-k-test.false))

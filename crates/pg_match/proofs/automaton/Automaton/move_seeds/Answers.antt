@@ -2,8 +2,8 @@ use Rattle.std.proofs.Common.{◌<◌, length, arith, subst}
 use Rattle.std.proofs.lemmas.List.{get_or_read}
 use Rattle.pg_match.specs.StateSets.{Inserted}
 use Rattle.pg_match.specs.Views.{members}
-use Rattle.pg_match.proofs.StartLemmas.{planting_next, planted, read_inside}
-use Rattle.pg_match.proofs.automaton.Automaton.plant.Goals as goal
+use Rattle.pg_match.proofs.StartLemmas.{seeds_moving_next, seeds_moved, read_inside}
+use Rattle.pg_match.proofs.automaton.Automaton.move_seeds.Goals as goal
 
 pub insert-requires-clause-within : goal.insert-requires-clause-within
 insert-requires-clause-within g c =
@@ -34,13 +34,13 @@ loop-k-preserved g c =
     (omega (arith, c.row-first.ensures.last)) in
     let u = members c.loop-k.next in
     let v = members c.insert.new.self in
-    planting_next m.states.items m.seeds.items targets b (members c.args.next.now) c.row-first.result.0 u v k
+    seeds_moving_next m.states.items m.seeds.items targets b (members c.args.next.now) c.row-first.result.0 u v k
     c.loop-k.invariant (subst (λ q. Inserted u v q 1) read c.insert.ensures.inserted) c.insert.ensures.counted w
 
 pub returns : goal.returns
 returns g c =
     let m = c.args.self.now in
-    planted m.states.items m.seeds.items m.starts.targets.items c.args.byte (members c.args.next.now)
+    seeds_moved m.states.items m.seeds.items m.starts.targets.items c.args.byte (members c.args.next.now)
     c.row-first.result.0 (members c.loop-k.next) c.loop-k.k m.starts.cuts.items c.loop-k.invariant
     c.requires.built.starts.below (omega arith) c.row-first.ensures.first
     (omega (arith, c.row-first.ensures.last, c.loop-k-test.false))

@@ -3,12 +3,12 @@ use Rattle.std.proofs.lemmas.List.{get_or_read}
 use Rattle.std.proofs.lemmas.Option.{slice_get-get_or}
 use Rattle.pg_match.specs.Views.{nfa, remembered}
 use Rattle.pg_match.proofs.CacheLemmas.{in_table, told_dead, row_next}
-use Rattle.pg_match.proofs.SkimLemmas.{skim_first, skim_later, skim_on, skim_fresh}
-use Rattle.pg_match.proofs.automaton.Automaton.skim.Goals as goal
-use Rattle.pg_match.proofs.automaton.Automaton.skim.Goals.{then-from-eq0, else-from-eq0}
+use Rattle.pg_match.proofs.ScanLemmas.{scan_first, scan_later, scan_on, scan_fresh}
+use Rattle.pg_match.proofs.automaton.Automaton.scan.Goals as goal
+use Rattle.pg_match.proofs.automaton.Automaton.scan.Goals.{then-from-eq0, else-from-eq0}
 
-pub follow_rows-state-requires-clause-skimmed : goal.follow_rows-state-requires-clause-skimmed
-follow_rows-state-requires-clause-skimmed g c =
+pub follow_rows-state-requires-clause-scanned : goal.follow_rows-state-requires-clause-scanned
+follow_rows-state-requires-clause-scanned g c =
     let m = nfa c.args.self.now in
     let mem = remembered c.args.memory.now in
     let l = c.args.line.now in
@@ -16,12 +16,12 @@ follow_rows-state-requires-clause-skimmed g c =
     elim c.if-from-eq0.branch [
       | then-from-eq0 w ↦
           rw (w.first-is, w.if-from-eq0.true)
-          (skim_first m mem l c.saturating_sub.result c.requires.memory
+          (scan_first m mem l c.saturating_sub.result c.requires.memory
           (omega (arith, c.if-memory-eq0.false)) c.requires.bytes
           (omega (arith, w.if-from-eq0.true)))
       | else-from-eq0 w ↦
           rw w.first-is
-          (skim_later m mem l c.args.from c.saturating_sub.result c.requires.memory w.if-from-eq0.false
+          (scan_later m mem l c.args.from c.saturating_sub.result c.requires.memory w.if-from-eq0.false
           c.requires.from_in (omega arith))
     ]
 
@@ -64,7 +64,7 @@ loop-place-preserved-then-index g c =
     let inside : v / 256 < length mem.fresh =
     omega (arith, row.0.known, c.requires.memory.shape.few, c.requires.memory.shape.fresh_size) in
     let fresh = get_or_read mem.fresh (v / 256) c.index.result.now inside c.index.ensures false in
-    skim_fresh m mem l c.args.from p at c.loop-place.start v b c.requires.built.runs c.requires.memory lt
+    scan_fresh m mem l c.args.from p at c.loop-place.start v b c.requires.built.runs c.requires.memory lt
     (slice_get-get_or l p 0 (omega arith)) more read big s
     (sym fresh ∙ c.if-index.true)
 
@@ -83,7 +83,7 @@ loop-place-preserved g c =
     let read = get_or_read mem.steps (at + b) v
     (in_table m mem at b c.requires.memory s.row lt) c.index-next.ensures 0 in
     let big : 256 ≤ v = omega (arith, c.if-next-lt256.false) in
-    skim_on m mem l c.args.from p at c.loop-place.start v b c.requires.built.runs c.requires.memory lt
+    scan_on m mem l c.args.from p at c.loop-place.start v b c.requires.built.runs c.requires.memory lt
     (slice_get-get_or l p 0 (omega arith)) more read big s
 
 pub returns-in-Some-false : goal.returns-in-Some-false
