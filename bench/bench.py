@@ -155,6 +155,19 @@ def cases(folder, megabytes):
                 # ripgrep takes seconds with -i for these lists, and more than a minute with -w.
                 ripgrep = None if options in ("-ci", "-cw") else ["-F", options, "-f", name]
                 yield Case(["-F", options, "-f", name], text, ripgrep)
+    write(folder / "beginnings", "".join(f"{it}\n" for it in texts.beginnings(words[:300])).encode())
+    write(folder / "nested", texts.nested(208))
+    write(folder / "joined", texts.joined(5))
+    for options in ("-c", "-o", "-cw", "-ow"):
+        yield Case(["-F", options, "-f", "beginnings"], "prose", ["-F", options, "-f", "beginnings"])
+    yield Case(["-F", "-cw", "-f", "nested"], "joined", ["-F", "-cw", "-f", "nested"])
+    # What a list takes before the first byte is searched.
+    write(folder / "tiny", b"one line\n")
+    for name in ("known-400", "known-2000", "ids"):
+        yield Case(["-F", "-c", "-f", name], "tiny", ["-F", "-c", "-f", name])
+    yield Case(["-cE", "-f", "expressions-known"], "tiny", ["-c", "-f", "expressions-known"])
+    write(folder / "wide", texts.wide(words, 5))
+    yield from split("-oE a.*b.*c.*d\n-oiE ab.*to\n-cE [xyz]{4}\n-oE [a-z]*ing", "wide")
     write(folder / "letters", b"a" * 20_000 + b"\n")
     yield from split("-oE a*b|a", "letters")
     write(folder / "log", texts.log(20))

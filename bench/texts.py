@@ -57,6 +57,22 @@ def alike(words, count):
     return [words[0][:3] + word[-4:] + "Z" for word in words[:count]]
 
 
+def beginnings(words):
+    """Each beginning of some words that has two letters or more, and the words."""
+    return dict.fromkeys(word[:stop] for word in words for stop in range(2, len(word) + 1))
+
+
+def nested(count):
+    """So many strings, `x`, `xy-x`, `xy-xy-x` and on, each of which ends inside of a word where the next one begins
+    with it."""
+    return "".join("xy-" * at + "x\n" for at in range(count)).encode()
+
+
+def joined(megabytes):
+    """Lines in which all of these strings begin at each third place, and none is a word but at the end."""
+    return ("xy-" * 66 + "xy\n").encode() * (megabytes * MEGABYTE // 201)
+
+
 def number(at):
     """One of many names that begin alike."""
     return f"order-{at:06}"
@@ -78,6 +94,15 @@ def orders(count, megabytes):
         line = f"2026-11-28 12:00:{seconds:02} INFO {number(chance.randint(0, 20 * count - 1))} done in {took} ms"
         lines.append(line)
         size += len(line) + 1
+    return ("\n".join(lines) + "\n").encode()
+
+
+def wide(words, megabytes):
+    """The same words in lines of 100,000 bytes and more."""
+    chance, lines, size = random.Random(7), [], 0
+    while size < megabytes * MEGABYTE:
+        lines.append(" ".join(chance.choices(words, k=13_000)))
+        size += len(lines[-1]) + 1
     return ("\n".join(lines) + "\n").encode()
 
 
