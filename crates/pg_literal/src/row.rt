@@ -97,14 +97,14 @@ fn is_from(set: &ByteSet, bound: u8) -> bool
     set.union(high) == high
 }
 
-/// A byte that no byte of a set is below. Where it is greater, fewer bytes are looked at.
+/// A byte that no byte of a set is below: the first letter in lower case, the first digit, or 0.
 fn low_end(set: &ByteSet) -> u8
     ensures { (b : ℕ) → b < result → bytes set.now b ≡ true → ⊥ }
 {
-    if is_from(set, 96) {
-        96
-    } else if is_from(set, 48) {
-        48
+    if is_from(set, b'a') {
+        b'a'
+    } else if is_from(set, b'0') {
+        b'0'
     } else {
         0
     }

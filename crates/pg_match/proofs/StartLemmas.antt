@@ -202,10 +202,10 @@ module _ (t : List State) (l : List ℕ) (i : ℕ) (seeds targets : List ℕ) (s
     counted = omega (arith, a.counted, r.counted);
   }
 
-  pub seeded : (u : Members) (k b : ℕ) (cuts : List ℕ) → SeedsStepping t l i seeds targets s u start first k
+  pub seeds_stepped : (u : Members) (k b : ℕ) (cuts : List ℕ) → SeedsStepping t l i seeds targets s u start first k
       → StartsBelow t seeds targets cuts 256 → b < 256 → slice_get l i ≡ Some b → first ≡ slice_index cuts b
       → slice_index cuts (b + 1) ≤ k → SeedsStepped t l i seeds s u start
-  seeded u k b cuts a starts byte is low high = record {
+  seeds_stepped u k b cuts a starts byte is low high = record {
     good = a.good;
     size = a.size;
     closed = a.closed;
@@ -224,32 +224,32 @@ module _ (t : List State) (l : List ℕ) (x p : ℕ) (B : ℕ → Type 0) (seeds
       → k < length seeds
       → Runs t l n (slice_index seeds k) p j → p + 1 ≤ j
       → (q : ℕ) × (m : ℕ) × (0 < mark u q) × (mark u q ≤ p + 1) × Runs t l m q (p + 1) j
-  passes s u a b seeded zero k j inside run past = absurd (omega (arith, run.1))
-  passes s u a b seeded (suc n) k j inside run past =
+  passes s u a b stepped zero k j inside run past = absurd (omega (arith, run.1))
+  passes s u a b stepped (suc n) k j inside run past =
       let q = slice_index seeds k in
       elim (edge_moves (slice_get t q) l p run.0 run.1 run.2) [
         | inl stays ↦
             let w = are.closed l p a b k run.0 inside (subst (λ v. Edge (slice_get t q) l p run.0 v) stays run.2) in
-            passes s u a b seeded n w.0 j w.1
+            passes s u a b stepped n w.0 j w.1
             (subst (λ r. Runs t l n r p j) (sym w.2) (subst (λ v. Runs t l n run.0 v j) stays run.3)) past
         | inr moves ↦
-            let h = seeded.here k run.0 inside (subst (λ v. Edge (slice_get t q) l p run.0 v) moves run.2) in
+            let h = stepped.here k run.0 inside (subst (λ v. Edge (slice_get t q) l p run.0 v) moves run.2) in
             (run.0, n, h.0, h.1, subst (λ v. Runs t l n run.0 v j) moves run.3)
       ]
 
   pub seeded : (s u : Members) (wanted : Bool) → p ≢ 0 → p ≢ length l → B p → SeedsStepped t l p seeds s u (p + 1)
       → Seeded t l x B p wanted s u
-  seeded s u wanted a b may seeded = record {
-    good = seeded.good;
-    size = seeded.size;
-    closed = seeded.closed;
-    ordered = seeded.ordered;
-    kept = seeded.kept;
+  seeded s u wanted a b may stepped = record {
+    good = stepped.good;
+    size = stepped.size;
+    closed = stepped.closed;
+    ordered = stepped.ordered;
+    kept = stepped.kept;
     fresh = λ q z h.
-        let f = seeded.fresh q z h in
+        let f = stepped.fresh q z h in
         (f.0, may, λ m j run. let w = f.1.2 m j run in are.leads l p f.1.0 f.1.1 w.0 j w.1);
     here = λ w may' n j run past.
-        passes s u a b seeded n are.first.0 j are.first.1 (subst (λ r. Runs t l n r p j) (sym are.first.2) run) past;
+        passes s u a b stepped n are.first.0 j are.first.1 (subst (λ r. Runs t l n r p j) (sym are.first.2) run) past;
   }
 
 -- and nothing is where no start is wanted, or none may be there

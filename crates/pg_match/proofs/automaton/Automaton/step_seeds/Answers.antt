@@ -4,7 +4,7 @@ use Rattle.std.proofs.lemmas.Option.{slice_get-get_or}
 use Rattle.std.specs.Prelude.{slice_get, slice_index}
 use Rattle.pg_match.specs.Closures.{Reached}
 use Rattle.pg_match.specs.Views.{members}
-use Rattle.pg_match.proofs.StartLemmas.{seeds_stepping_next, seeded, read_inside}
+use Rattle.pg_match.proofs.StartLemmas.{seeds_stepping_next, seeds_stepped, read_inside}
 use Rattle.pg_match.proofs.StandsLemmas.{reads_edge}
 use Rattle.pg_match.proofs.automaton.Automaton.step_seeds.Goals as goal
 
@@ -54,7 +54,7 @@ returns g c =
     let b = slice_index l p in
     let byte : b < 256 = omega (arith, c.type_inv.line p) in
     let is = slice_get-get_or l p 0 c.requires.place in
-    seeded m.states.items l p m.seeds.items m.starts.targets.items (members c.args.next.now) (p + 1)
+    seeds_stepped m.states.items l p m.seeds.items m.starts.targets.items (members c.args.next.now) (p + 1)
     c.row-first.result.0 (members c.loop-k.next) c.loop-k.k b m.starts.cuts.items c.loop-k.invariant
     c.requires.built.starts.below byte is c.row-first.ensures.first
     (omega (arith, c.row-first.ensures.last, c.loop-k-test.false))
