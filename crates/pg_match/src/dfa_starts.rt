@@ -212,6 +212,34 @@ impl<A: Allocator> Automaton<A> {
             && self.ends_behind(line[place])
     }
 
+    /// The best span from a place on, by what is remembered of the runs that begin at one place, where that is wanted.
+    fn find_behind(
+        &self,
+        sets: &mut StateSets<A>,
+        memory: &mut Cache<A>,
+        anchored: &mut Option<Cache<A>>,
+        line: &[u8],
+        start: usize,
+    ) -> Option<(usize, usize)>
+        requires built { IsBuilt self.now }
+        requires room { HaveRoom (buffers sets.old) (length self.now.states.items) }
+        requires anchored { RemembersAnchored anchored.old (nfa self.now) }
+        requires short { length line.now ≤ 2 ^ 30 }
+        requires start_in { start ≤ length line.now }
+        ensures room { HaveRoom (buffers sets.new) (length self.now.states.items) }
+        ensures same { remembered memory.new ≡ remembered memory.old }
+        ensures anchored { RemembersAnchored anchored.new (nfa self.now) }
+        ensures best { IsBest self.now.states.items line.now self.now.start (MayBegin self.now.bounds line.now)
+            (MayEnd self.now.bounds line.now) start (length line.now + 1) result }
+        ensures visits { sets.new.visits ≤ (length line.now + 1) * length self.now.states.items }
+        ensures told { added sets.new ≡ added sets.old + sets.new.visits }
+    {
+        match anchored {
+            Some(anchored) => self.find_from(sets, memory, anchored, line, start),
+            None => self.find(sets, line, start),
+        }
+    }
+
     /// The best span from a place on of a line that isn't empty, by runs of the automaton.
     fn find_by(
         &self,
@@ -245,12 +273,9 @@ impl<A: Allocator> Automaton<A> {
                 sets.visits = 0;
                 Some((start, start + 1))
             }
-            Scan::Known(start) => match anchored {
-                Some(anchored) => self.find_from(sets, memory, anchored, line, start),
-                None => self.find(sets, line, start),
-            },
+            Scan::Known(start) => self.find_behind(sets, memory, anchored, line, start),
             Scan::Unknown(start) => {
-                let best = self.find(sets, line, start);
+                let best = self.find_behind(sets, memory, anchored, line, start);
                 self.study(sets, memory, line, from);
                 best
             }
