@@ -11,8 +11,7 @@ use Rattle.pg_strings.specs.Sets.{SomeStands}
 use Rattle.pg_strings.specs.Outcomes.{strings_of, IsLongestAt}
 use Rattle.pg_strings.specs.declared.set.StringSet.{StringSet}
 use Rattle.pg_selection.specs.Search.{Bounds, Whole}
-use Rattle.pg_lines.specs.Strings.{IsStringHit, IsNextString, HasNoString, TellsHit}
-use Rattle.pg_lines.specs.declared.strings.Standing.TheVariants.{Until}
+use Rattle.pg_lines.specs.Strings.{IsStringHit, IsNextString, HasNoString, IsLongestHit}
 
 -- each string of a set has a byte
 pub are_some : {A : Type 0} (set : StringSet A) → All (λ s. 1 ≤ length s) (strings_of set)
@@ -111,7 +110,7 @@ module _ (strings : List (List ℕ)) (bounds : Bounds) (line : List ℕ) (some :
 
       -- where it ends as a match may, it is the longest hit
       pub longest_is_hit : MayBegin bounds line place → MayEnd bounds line (place + len)
-          → TellsHit strings bounds line place (Until (place + len))
+          → IsLongestHit strings bounds line place (Some (place + len))
       longest_is_hit begins ends =
           let any = longest.0 in
           let o = take_occurs line any.1 place stop within any.4.0 in (
@@ -161,7 +160,7 @@ module _ (strings : List (List ℕ)) (bounds : Bounds) (line : List ℕ) (some :
     ]
 
     -- the longest hit there is the next one
-    pub next_here : from ≤ at → (stop : ℕ) → TellsHit strings bounds line place (Until stop)
+    pub next_here : from ≤ at → (stop : ℕ) → IsLongestHit strings bounds line place (Some stop)
         → IsNextString strings bounds line from place stop
     next_here low stop longest = record {
       later = let up = first.low in omega (arith, low, up);

@@ -1,6 +1,6 @@
 -- Queries whose patterns are all fixed strings, and where these stand in a line (XCU grep, -F; GNU grep, -w and -o).
 use Rattle.std.specs.Prelude.{◌≡◌, ℕ, ◌+◌, ◌<◌, ◌≤◌, List, length, map, slice_range, IfSome}
-use Rattle.std.specs.Prelude.{IsTrue}
+use Rattle.std.specs.Prelude.{Option, MatchOption, IsTrue}
 use Rattle.std.specs.List.{Any}
 use Rattle.memchr.specs.Find.{OccursAt}
 use Rattle.pg_pattern.specs.Bounds.{MayBegin, MayEnd}
@@ -12,8 +12,6 @@ use Rattle.pg_lines.specs.Literals.{AreLiterals, set_literals}
 use Rattle.pg_lines.specs.declared.literal_set.LiteralSet.{LiteralSet}
 use Rattle.pg_lines.specs.declared.strings.BlockStrings.{BlockStrings}
 use Rattle.pg_lines.specs.declared.strings.NextString.{NextString}
-use Rattle.pg_lines.specs.declared.strings.Standing.{Standing}
-use Rattle.pg_lines.specs.declared.strings.Standing.TheVariants.{Until, Nothing}
 use Rattle.pg_lines.specs.declared.strings.NextString.TheVariants.{Found, Nowhere, Behind, GaveUp}
 
 -- the strings are the patterns, which are fixed strings; with -i they are in lower case
@@ -39,13 +37,11 @@ pub record IsNextString (strings : List (List ℕ)) (bounds : Bounds) (line : Li
 abbrev pub HasNoString : List (List ℕ) → Bounds → List ℕ → ℕ → Type 0
 HasNoString strings bounds line place = (i j : ℕ) → place ≤ i → IsStringHit strings bounds line i j → ⊥
 
--- the end of the longest string that stands so at a place, or that none does, if the search wasn't given up
-abbrev pub TellsHit : List (List ℕ) → Bounds → List ℕ → ℕ → Standing → Type 0
-TellsHit strings bounds line place (Until stop) =
-    (place < stop) × IsStringHit strings bounds line place stop
-    × ((j : ℕ) → IsStringHit strings bounds line place j → j ≤ stop)
-TellsHit strings bounds line place Nothing = (j : ℕ) → IsStringHit strings bounds line place j → ⊥
-TellsHit strings bounds line place Standing.GaveUp = Unit {0}
+-- the end of the longest string that stands so at a place, if one does
+abbrev pub IsLongestHit : List (List ℕ) → Bounds → List ℕ → ℕ → Option ℕ → Type 0
+IsLongestHit strings bounds line place stop = MatchOption stop ((j : ℕ) → IsStringHit strings bounds line place j → ⊥)
+    (λ stop. (place < stop) × IsStringHit strings bounds line place stop
+    × ((j : ℕ) → IsStringHit strings bounds line place j → j ≤ stop))
 
 -- the next string of a line, or a place that none begins before, if the search wasn't given up
 abbrev pub FindsString : List (List ℕ) → Bounds → List ℕ → ℕ → NextString → Type 0

@@ -4,7 +4,7 @@ ghost use Rattle.std.specs.Prelude.{◌≡◌, ◌+◌, ◌<◌, ◌≤◌, List
 ghost use Rattle.pg_strings.specs.Outcomes.{strings_of};
 ghost use Rattle.pg_selection.specs.Search.{SearchText, Pattern, AreTreesOf, bounds_of};
 ghost use Rattle.pg_lines.specs.Literals.{TellHeads};
-ghost use Rattle.pg_lines.specs.Strings.{TellsHit, FindsString, FindsPart, IsHead, JudgesLine};
+ghost use Rattle.pg_lines.specs.Strings.{IsLongestHit, FindsString, FindsPart, IsHead, JudgesLine};
 
 use crate::query::Query;
 use memchr::memmem::Finder;
@@ -18,9 +18,6 @@ use std::alloc::Allocator;
 /// since a line in which comparing takes long spends it in vain before the automaton judges it.
 const ALLOWANCE: usize = 128;
 
-/// What it costs to look for a shorter string at a place, where the longest one doesn't end as a match may.
-const SHORTER: usize = 4;
-
 /// What the search for the next string of a line came to.
 #[derive(Clone, Copy)]
 pub(crate) enum NextString {
@@ -31,17 +28,6 @@ pub(crate) enum NextString {
     /// It doesn't begin before this place, and isn't empty.
     Behind(usize),
     /// To look for strings takes too long here, or there are none to look for.
-    GaveUp,
-}
-
-/// Whether some string stands at a place of a line, where a match may begin and end.
-#[derive(Clone, Copy)]
-enum Standing {
-    /// The longest one ends here.
-    Until(usize),
-    /// None does.
-    Nothing,
-    /// To look for shorter strings takes too long here.
     GaveUp,
 }
 
@@ -70,28 +56,23 @@ fn longest_hit<A: Allocator>(
     bounds: Bounds,
     line: &[u8],
     place: usize,
-    budget: &mut Budget,
-) -> Standing
+) -> Option<usize>
     requires { place ≤ length line.now }
-    ensures { TellsHit (strings_of set.now) bounds line.now place result }
+    ensures { IsLongestHit (strings_of set.now) bounds line.now place result }
 {
     if !bounds.may_begin(line, place) {
-        return Standing::Nothing;
+        return None;
     }
     let mut stop = line.len();
     while let Some(len) = set.longest_at(&line[..stop], place) {
         let end = place + len;
         if bounds.may_end(line, end) {
-            return Standing::Until(end);
+            return Some(end);
         }
-        if budget.left == 0 {
-            return Standing::GaveUp;
-        }
-        budget.spend(SHORTER);
         // A shorter string may have its border.
         stop = end - 1;
     }
-    Standing::Nothing
+    None
 }
 
 /// The first string from a place of a line on, and of those that start there the longest, where a match may begin and
@@ -113,11 +94,10 @@ fn next_standing<A: Allocator>(
             Outcome::NotFound => return NextString::Nowhere,
             Outcome::GaveUp(_) => return NextString::GaveUp,
         };
-        match longest_hit(set, bounds, line, place, &mut budget) {
-            Standing::Until(end) => return NextString::Found(Span { start: place, end }),
-            Standing::Nothing => at = place + 1,
-            Standing::GaveUp => return NextString::GaveUp,
+        if let Some(end) = longest_hit(set, bounds, line, place) {
+            return NextString::Found(Span { start: place, end });
         }
+        at = place + 1;
     }
     NextString::Nowhere
 }

@@ -9,11 +9,11 @@ returns-in-NotFound g c =
     none_further (strings_of set) c.args.bounds c.args.line.now (are_some set) c.args.from c.loop-at.at
     c.loop-at.invariant.none c.in-NotFound.ensures.outcome
 
-pub returns-in-Until : goal.returns-in-Until
-returns-in-Until g c =
+pub returns-in-Some : goal.returns-in-Some
+returns-in-Some g c =
     let set = c.args.set.now in
     next_here (strings_of set) c.args.bounds c.args.line.now (are_some set) c.args.from c.loop-at.at c.in-Found.place
-    c.loop-at.invariant.none c.in-Found.ensures.outcome.0 c.loop-at.invariant.low c.in-Until.end c.in-Until.ensures
+    c.loop-at.invariant.none c.in-Found.ensures.outcome.0 c.loop-at.invariant.low c.in-Some.end c.in-Some.ensures
 
 pub loop-at-preserved : goal.loop-at-preserved
 loop-at-preserved g c =
@@ -23,5 +23,5 @@ loop-at-preserved g c =
     record {
       low = let up = first.low in omega (arith, i.low, up);
       none = none_here (strings_of set) c.args.bounds c.args.line.now (are_some set) c.args.from c.loop-at.at
-          c.in-Found.place i.none first c.in-Nothing.ensures;
+          c.in-Found.place i.none first c.in_default.ensures;
     }
