@@ -98,7 +98,7 @@ def orders(count, megabytes):
 
 
 def wide(words, megabytes):
-    """The same words in lines of 100,000 bytes and more."""
+    """Lines of 13,000 of these words each, some 100,000 bytes."""
     chance, lines, size = random.Random(7), [], 0
     while size < megabytes * MEGABYTE:
         lines.append(" ".join(chance.choices(words, k=13_000)))
