@@ -3,7 +3,7 @@
 
 use pg_base::Out;
 use pg_command::{Call, Fault, report, run, words_of};
-use pg_files::Listed;
+use pg_files::OperandFiles;
 use pg_prefetch::{PrefetchStore, PrefetchTree};
 use std::alloc::Global;
 use std::io::{BufWriter, IsTerminal};
@@ -23,7 +23,7 @@ fn main(rt: HostRuntime) -> ExitCode {
     };
     let call = words_of(&rt).map(|words| Call { words, terminal });
     let tree = PrefetchTree::new(rt, alloc);
-    let mut files = Listed::new(alloc, &tree, PrefetchStore::new(rt, &tree));
+    let mut files = OperandFiles::new(alloc, &tree, PrefetchStore::new(rt, &tree));
     let mut out = Out::new(buffered);
     ExitCode::from(run(&rt, alloc, call, &tree, &mut files, &mut out, &mut err))
 }

@@ -1,7 +1,7 @@
 //! Boards that threads draw from.
 ghost use Rattle.std.specs.Prelude.{◌≡◌, ◌<◌, ◌≤◌, length, IfOk};
 
-use pg_board::{Board, Drawn, Seat};
+use pg_board::{Board, DrawnNumbers, Seat};
 use refusing::Refusing;
 use std::alloc::{AllocError, Allocator, Global};
 use std::sync::atomic::{AtomicU64, Ordering};
@@ -24,7 +24,7 @@ fn a_spent_seat_stays_spent(rt: HostRuntime) {
     let (board, mut seats) = Board::open(rt.alloc(), 2, 1).expect(&rt, "memory");
     let is_spent = is_spent_behind_two(&board, &mut seats[0]);
     let drawn = board.close(seats);
-    assert!(rt; is_spent && drawn == Drawn { upto: 2 });
+    assert!(rt; is_spent && drawn == DrawnNumbers { upto: 2 });
 }
 
 /// So many counters, each 0.
@@ -59,7 +59,7 @@ fn four_draw<R: Threads + Sync>(
     limit: u32,
     seats: u32,
     most: u64,
-) -> Result<(Drawn, Vec<AtomicU64>), AllocError>
+) -> Result<(DrawnNumbers, Vec<AtomicU64>), AllocError>
     requires { (0 < seats) × (seats ≤ 65) }
 {
     let drawn = counters(alloc, limit as usize)?;
@@ -94,7 +94,7 @@ fn draw_each_once<R: Threads + Sync>(
     requires { (0 < seats) × (seats ≤ 65) }
 {
     match four_draw(rt, alloc, limit, seats, most) {
-        Ok((drawn, times)) => drawn == Drawn { upto: limit } && are_ones(&times, limit),
+        Ok((drawn, times)) => drawn == DrawnNumbers { upto: limit } && are_ones(&times, limit),
         Err(AllocError) => false,
     }
 }
@@ -115,7 +115,7 @@ fn four_threads_draw_each_number_once(rt: HostRuntime) {
 fn draw_one<A: Allocator + Copy>(
     alloc: A,
     heap: &Refusing,
-) -> Result<(Option<u32>, Drawn, u64), AllocError> {
+) -> Result<(Option<u32>, DrawnNumbers, u64), AllocError> {
     let (board, mut seats) = Board::open(alloc, 2, 2)?;
     let requests = heap.requests();
     let drawn = board.draw(&mut seats[1]);
@@ -126,7 +126,7 @@ fn draw_one<A: Allocator + Copy>(
 /// Whether that draws 0 and makes no request behind the opening, or else the opening was refused.
 pub(crate) fn is_drawn(heap: &Refusing) -> bool {
     match draw_one(heap, heap) {
-        Ok(drawn) => !heap.has_refused() && drawn == (Some(0), Drawn { upto: 1 }, 0),
+        Ok(drawn) => !heap.has_refused() && drawn == (Some(0), DrawnNumbers { upto: 1 }, 0),
         Err(AllocError) => heap.has_refused(),
     }
 }

@@ -10,7 +10,7 @@ use std::alloc::{AllocError, Allocator, Global};
 #[derive(Clone, Copy)]
 pub(crate) enum Way {
     /// As pieces that are fed.
-    Fed,
+    CutterPast,
     /// As what is read into the cutter's room.
     Filled,
     /// As pieces that are fed, behind each of which the whole lines are taken.
@@ -77,7 +77,7 @@ fn show_taken(cutter: &mut Cutter, way: Way, piece: &[u8], out: &mut String)
     ensures { IsDrained cutter.new }
 {
     let taken = match way {
-        Way::Fed | Way::Lined => cutter.feed(piece),
+        Way::CutterPast | Way::Lined => cutter.feed(piece),
         Way::Filled => fill(cutter, piece),
     };
     if let Err(fault) = taken {
@@ -115,7 +115,7 @@ pub(crate) fn show_blocks(alloc: Global, way: Way, end: &str, pieces: &str, out:
 
 #[test]
 fn a_file_is_cut_at_its_terminator(rt: HostRuntime) {
-    assert_rows(&rt, rt.alloc(), Question::Blocks(Way::Fed), CUT);
+    assert_rows(&rt, rt.alloc(), Question::Blocks(Way::CutterPast), CUT);
     assert_rows(&rt, rt.alloc(), Question::Blocks(Way::Filled), CUT);
     assert_rows(&rt, rt.alloc(), Question::Blocks(Way::Lined), LINED);
 }

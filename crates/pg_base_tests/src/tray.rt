@@ -1,7 +1,7 @@
 //! Trays that threads put into, and one takes from.
 ghost use Rattle.std.specs.Prelude.{◌≡◌};
 
-use pg_board::{Delivered, PutPass, TakePass, Tray};
+use pg_board::{PutPass, TakePass, Tray, TrayRest};
 use refusing::Refusing;
 use std::alloc::{AllocError, Allocator, Global};
 use std::sync::{Arc, Wait};
@@ -103,7 +103,7 @@ fn take_fifty<A: Allocator>(
 /// Adds what is left of a tray.
 fn add_left<A: Allocator>(
     rt: &impl Wait,
-    left: Delivered<Found, A>,
+    left: TrayRest<Found, A>,
     mut all: Vec<Found>,
 ) -> Result<Vec<Found>, AllocError> {
     let mut left = left;
@@ -187,7 +187,7 @@ fn put_numbers<R: Wait, A: Allocator>(
 }
 
 /// Whether the numbers from 1 to 99 are left, in their order, and nothing else.
-fn is_rest<R: Wait, A: Allocator>(rt: &R, left: Delivered<u32, A>) -> bool {
+fn is_rest<R: Wait, A: Allocator>(rt: &R, left: TrayRest<u32, A>) -> bool {
     let mut left = left;
     for number in 1..100u32 {
         if left.next(rt) != Some(number) {

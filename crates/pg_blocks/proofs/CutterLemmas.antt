@@ -11,7 +11,8 @@ use Rattle.pg_blocks.specs.Blocks.{BlockData, joined, EndsWith, IsFinished, IsUn
 use Rattle.pg_blocks.specs.Blocks.{CutsBehind}
 use Rattle.pg_blocks.specs.Lines.{IsLine}
 use Rattle.pg_blocks.specs.Long.{has_long, open_from, CutsOff}
-use Rattle.pg_blocks.specs.Cutter.{Fed, IsCutterAfter, IsDrained, fed, handed, IsNextBlock, AreAllBlocks, HasLongLine}
+use Rattle.pg_blocks.specs.Cutter.{CutterPast, IsCutterAfter, IsDrained, fed, handed, IsNextBlock, AreAllBlocks}
+use Rattle.pg_blocks.specs.Cutter.{HasLongLine}
 use Rattle.pg_blocks.specs.Cutter.{held}
 use Rattle.pg_blocks.specs.Cutter.{CutsFed, handed_early, HasLinesLeft, HasNoLineLeft}
 use Rattle.pg_blocks.specs.declared.cutter.Cutter.{Cutter}
@@ -21,7 +22,7 @@ use Rattle.pg_blocks.proofs.EarlyLemmas.{all_end, line_unfinished, blocks_open}
 use Rattle.pg_blocks.proofs.LongLemmas.{long_decides, long_append, open_append}
 use Rattle.pg_blocks.proofs.LongLemmas.{open_cut, open_none}
 
-pub next_block : {A : Type 0} (cutter : Cutter A) (past : Fed) (b : BlockData) (rest : List BlockData)
+pub next_block : {A : Type 0} (cutter : Cutter A) (past : CutterPast) (b : BlockData) (rest : List BlockData)
     → cutter.ready.items ≡ b ∷ rest → IsCutterAfter cutter past → IsNextBlock past b
 next_block cutter past b rest e s =
     let P : List BlockData → Type 0 = λ bs. AreNumbered past.file 0 (past.taken ++ bs) in
@@ -34,7 +35,7 @@ next_block cutter past b rest e s =
       cut = (rest, held cutter, subst Q e s.cut);
     }
 
-drained : {A : Type 0} (cutter : Cutter A) (past : Fed) → IsCutterAfter cutter past → IsDrained cutter
+drained : {A : Type 0} (cutter : Cutter A) (past : CutterPast) → IsCutterAfter cutter past → IsDrained cutter
     → CutsFed past past.taken (held cutter) × AreNumbered past.file 0 past.taken
 drained cutter past s d =
     let same : past.taken ++ cutter.ready.items ≡ past.taken = ap (λ bs. past.taken ++ bs) d ∙ append-nil past.taken in
@@ -42,7 +43,7 @@ drained cutter past s d =
     let P : List BlockData → Type 0 = λ bs. C bs × AreNumbered past.file 0 bs in
     subst P same (s.cut, s.numbered)
 
-pub finished_some : {A : Type 0} (cutter : Cutter A) (past : Fed) → IsCutterAfter cutter past → IsDrained cutter
+pub finished_some : {A : Type 0} (cutter : Cutter A) (past : CutterPast) → IsCutterAfter cutter past → IsDrained cutter
     → held cutter ≢ []
     → AreAllBlocks
     (handed past (Some (record { file = cutter.file; number = cutter.number; bytes = held cutter })))
@@ -56,7 +57,7 @@ finished_some cutter past s d ne =
       cut = fed_last past past.taken (held cutter) h.0 b refl ne;
     }
 
-pub finished_none : {A : Type 0} (cutter : Cutter A) (past : Fed) → IsCutterAfter cutter past → IsDrained cutter
+pub finished_none : {A : Type 0} (cutter : Cutter A) (past : CutterPast) → IsCutterAfter cutter past → IsDrained cutter
     → held cutter ≡ [] → AreAllBlocks (handed past None)
 finished_none cutter past s d none =
     let h = drained cutter past s d in
@@ -68,12 +69,12 @@ finished_none cutter past s d none =
 
 pub next_if_some : {A : Type 0} (cutter : Cutter A) (r : Option BlockData) (rest : List BlockData)
     → cutter.ready.items ≡ option_to_list r ++ rest
-    → IfSome r (λ b. (past : Fed) → IsCutterAfter cutter past → IsNextBlock past b)
+    → IfSome r (λ b. (past : CutterPast) → IsCutterAfter cutter past → IsNextBlock past b)
 next_if_some cutter None rest e = tt
 next_if_some cutter (Some b) rest e = λ past s. next_block cutter past b rest e s
 
 -- the test on a piece that follows
-pub piece_decides : {A : Type 0} (cutter : Cutter A) (past : Fed) (piece : List ℕ) → IsCutterAfter cutter past
+pub piece_decides : {A : Type 0} (cutter : Cutter A) (past : CutterPast) (piece : List ℕ) → IsCutterAfter cutter past
     → Decides (has_long cutter.end cutter.longest cutter.line piece) (HasLongLine (fed past piece))
 piece_decides cutter past piece s =
     let d = long_decides past.end past.longest (past.bytes ++ piece) in
@@ -92,12 +93,12 @@ piece_decides cutter past piece s =
     (λ e. d.0 (same ∙ e), λ h. sym same ∙ d.1 h)
 
 -- a piece after which no line is too long
-pub no_long : {A : Type 0} (cutter : Cutter A) (past : Fed) (piece : List ℕ) → IsCutterAfter cutter past
+pub no_long : {A : Type 0} (cutter : Cutter A) (past : CutterPast) (piece : List ℕ) → IsCutterAfter cutter past
     → has_long cutter.end cutter.longest cutter.line piece ≡ false → HasLongLine (fed past piece) → ⊥
 no_long cutter past piece s short h = false≢true (sym short ∙ (piece_decides cutter past piece s).1 h)
 
 -- after a piece, from whose blocks the cutter has the new ones
-pub fed_stands : {A : Type 0} (old new : Cutter A) (past : Fed) (piece left : List ℕ) (count : ℕ)
+pub fed_stands : {A : Type 0} (old new : Cutter A) (past : CutterPast) (piece left : List ℕ) (count : ℕ)
     (ready' : List BlockData) → IsCutterAfter old past
     → new.file ≡ old.file → new.size ≡ old.size → new.longest ≡ old.longest → new.end ≡ old.end
     → new.number ≡ old.number + count → new.total ≡ old.total + length piece
@@ -182,8 +183,8 @@ cuts_first end size file number len at rest piece first left blocks ready ready'
     }
 
 -- a cutter that handed out its next block, if there was one, is the same but for its blocks
-pub handed_stands : {A : Type 0} (old new : Cutter A) (past : Fed) (r : Option BlockData) → IsCutterAfter old past
-    → new.file ≡ old.file → new.size ≡ old.size → new.longest ≡ old.longest → new.end ≡ old.end
+pub handed_stands : {A : Type 0} (old new : Cutter A) (past : CutterPast) (r : Option BlockData)
+    → IsCutterAfter old past → new.file ≡ old.file → new.size ≡ old.size → new.longest ≡ old.longest → new.end ≡ old.end
     → new.number ≡ old.number → new.total ≡ old.total → new.line ≡ old.line → held new ≡ held old
     → old.ready.items ≡ option_to_list r ++ new.ready.items → IsCutterAfter new (handed past r)
 handed_stands old new past r s file size longest end number total line same ready =
@@ -205,7 +206,7 @@ handed_stands old new past r s file size longest end number total line same read
     }
 
 -- An open block, behind which nothing is ready.
-module _ {A : Type 0} (old : Cutter A) (past : Fed) (s : IsCutterAfter old past) (d : IsDrained old) where
+module _ {A : Type 0} (old : Cutter A) (past : CutterPast) (s : IsCutterAfter old past) (d : IsDrained old) where
   abbrev drained_cut : CutsFed past past.taken (held old)
   drained_cut = (drained old past s d).0
 

@@ -9,7 +9,7 @@ use Rattle.pg_blocks.specs.Lines.{lines, IsLine}
 use Rattle.pg_blocks.specs.Long.{open_from}
 use Rattle.pg_blocks.specs.Blocks.{BlockData, joined, EndsWith, IsFinished, IsUnfinished, Cuts, IsCut, IsCutting}
 use Rattle.pg_blocks.specs.Blocks.{AllButLastEnd, CutsBehind}
-use Rattle.pg_blocks.specs.Cutter.{Fed, CutsFed, AreAllBlocks}
+use Rattle.pg_blocks.specs.Cutter.{CutterPast, CutsFed, AreAllBlocks}
 use Rattle.pg_blocks.proofs.CutLaws.{cut_is_cutting, ended_some}
 use Rattle.pg_blocks.proofs.CutLemmas.{cuts_more, end_at, clear_behind, unfinished_by}
 use Rattle.pg_blocks.proofs.LineLemmas.{lines-append}
@@ -28,7 +28,7 @@ all_end end [] ys h k = k
 all_end end (x ∷ xs) ys h k = (h.0, all_end end xs ys h.1 k)
 
 -- What a cutter was fed.
-module _ (past : Fed) (blocks : List BlockData) (rest : List ℕ) (k : CutsFed past blocks rest) where
+module _ (past : CutterPast) (blocks : List BlockData) (rest : List ℕ) (k : CutsFed past blocks rest) where
   -- the blocks and what is left are its bytes
   pub fed_whole : past.bytes ≡ joined blocks ++ rest
   fed_whole =
@@ -135,7 +135,7 @@ cutting_behind end (b ∷ early) rest later h c =
       ends = ends_onto end b (early ++ later) h.0 r.ends;
     }
 
-pub all_are_cutting : (past : Fed) → AreAllBlocks past → IsCutting past.end past.bytes past.taken
+pub all_are_cutting : (past : CutterPast) → AreAllBlocks past → IsCutting past.end past.bytes past.taken
 all_are_cutting past h =
     let k = h.cut in
     let P : List ℕ → Type 0 = λ xs. IsCutting past.end xs (past.early ++ k.later) in
@@ -151,13 +151,14 @@ cutting_lines end (b ∷ c ∷ blocks) h =
     ap (λ ls. lines end b.bytes ++ ls) (cutting_lines end (c ∷ blocks) h.1)
     ∙ sym (lines-append end b.bytes (joined (c ∷ blocks)) (inr h.0))
 
-pub all_have_lines : (past : Fed) → AreAllBlocks past
+pub all_have_lines : (past : CutterPast) → AreAllBlocks past
     → flat_map (λ b. lines past.end b.bytes) past.taken ≡ lines past.end past.bytes
 all_have_lines past h =
     let c = all_are_cutting past h in
     cutting_lines past.end past.taken c.ends ∙ ap (lines past.end) c.whole
 
-pub none_early : (past : Fed) → past.early ≡ [] → AreAllBlocks past → IsCut past.end past.size past.bytes past.taken
+pub none_early : (past : CutterPast) → past.early ≡ [] → AreAllBlocks past
+    → IsCut past.end past.size past.bytes past.taken
 none_early past e h =
     let k = h.cut in
     let blocks : past.taken ≡ k.later = k.blocks_are ∙ ap (λ bs. bs ++ k.later) e in

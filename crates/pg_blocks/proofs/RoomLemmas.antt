@@ -4,13 +4,13 @@ use Rattle.std.proofs.Common.{Result, Ok, Err}
 use Rattle.std.specs.Prelude.{OnErr}
 use Rattle.std.proofs.Props.{props}
 use Rattle.pg_blocks.specs.Blocks.{BlockData, AreNumbered, IsUnfinished}
-use Rattle.pg_blocks.specs.Cutter.{Fed, CutsFed, IsCutterAfter, KeepsCutter, held, room_of}
+use Rattle.pg_blocks.specs.Cutter.{CutterPast, CutsFed, IsCutterAfter, KeepsCutter, held, room_of}
 use Rattle.pg_blocks.specs.Lending.{front_stays, with_room}
 use Rattle.pg_blocks.specs.declared.cutter.Cutter.{Cutter}
 use Rattle.pg_blocks.proofs.BufferLemmas.{back_is}
 
 -- a cutter with the same open block that is the same but for its room
-pub held_stays : {A : Type 0} (old new : Cutter A) (past : Fed) → IsCutterAfter old past
+pub held_stays : {A : Type 0} (old new : Cutter A) (past : CutterPast) → IsCutterAfter old past
     → new.file ≡ old.file → new.size ≡ old.size → new.longest ≡ old.longest → new.end ≡ old.end
     → new.number ≡ old.number → new.total ≡ old.total → new.line ≡ old.line
     → new.ready.items ≡ old.ready.items → held new ≡ held old → IsCutterAfter new past

@@ -10,7 +10,7 @@ use Rattle.pg_blocks.specs.declared.cutter.Cutter.{Cutter}
 
 -- the terminator, what `new` was given, the bytes fed at Ok one after another, the blocks handed out, and those of them
 -- up to the newest one that was handed out early
-pub record Fed : Type 0 where
+pub record CutterPast : Type 0 where
   pub end : ℕ
   pub file : ℕ
   pub size : ℕ
@@ -20,53 +20,53 @@ pub record Fed : Type 0 where
   pub early : List BlockData
 
 -- a new cutter's
-abbrev pub unfed : ℕ → ℕ → ℕ → ℕ → Fed
+abbrev pub unfed : ℕ → ℕ → ℕ → ℕ → CutterPast
 unfed end file size longest =
     record { end = end; file = file; size = size; longest = longest; bytes = []; taken = []; early = [] }
 
-abbrev pub fed : Fed → List ℕ → Fed
+abbrev pub fed : CutterPast → List ℕ → CutterPast
 fed past piece = record past { bytes = past.bytes ++ piece }
 
-abbrev pub handed : Fed → Option BlockData → Fed
+abbrev pub handed : CutterPast → Option BlockData → CutterPast
 handed past block = record past { taken = past.taken ++ option_to_list block }
 
 -- the block, if there is one, was handed out early
-abbrev pub handed_early : Fed → Option BlockData → Fed
+abbrev pub handed_early : CutterPast → Option BlockData → CutterPast
 handed_early past None = past
 handed_early past (Some block) =
     record past { taken = past.taken ++ block ∷ []; early = past.taken ++ block ∷ [] }
 
 -- these are the early blocks and the finished ones of the bytes behind them, and that is left
-abbrev pub CutsFed : Fed → List BlockData → List ℕ → Type 0
+abbrev pub CutsFed : CutterPast → List BlockData → List ℕ → Type 0
 CutsFed past blocks rest =
     CutsBehind past.early past.end past.bytes blocks (λ bytes later. Cuts past.end past.size bytes later rest)
 
 -- the blocks handed out are all finished blocks of the bytes, but for the early ones
-abbrev pub HasNoneLeft : Fed → Type 0
+abbrev pub HasNoneLeft : CutterPast → Type 0
 HasNoneLeft past = (rest : List ℕ) × CutsFed past past.taken rest
 
 -- the blocks handed out and this one are the first blocks of the file, whatever comes behind its bytes
-pub record IsNextBlock (past : Fed) (block : BlockData) : Type 0 where
+pub record IsNextBlock (past : CutterPast) (block : BlockData) : Type 0 where
   pub numbered : AreNumbered past.file 0 (past.taken ++ block ∷ [])
   pub cut : (later : List BlockData) × (rest : List ℕ) × CutsFed past (past.taken ++ block ∷ later) rest
 
 -- the blocks handed out are all blocks of the file
-pub record AreAllBlocks (past : Fed) : Type 0 where
+pub record AreAllBlocks (past : CutterPast) : Type 0 where
   pub numbered : AreNumbered past.file 0 past.taken
   pub cut : CutsBehind past.early past.end past.bytes past.taken (IsCut past.end past.size)
 
 -- behind the blocks handed out no line ends
-abbrev pub HasNoLineLeft : Fed → Type 0
+abbrev pub HasNoLineLeft : CutterPast → Type 0
 HasNoLineLeft past = (rest : List ℕ) × (past.bytes ≡ joined past.taken ++ rest) × IsLine past.end rest
 
 -- the block has the next number, and all whole lines behind the blocks handed out
-pub record HasLinesLeft (past : Fed) (block : BlockData) : Type 0 where
+pub record HasLinesLeft (past : CutterPast) (block : BlockData) : Type 0 where
   pub numbered : AreNumbered past.file 0 (past.taken ++ block ∷ [])
   pub ends : EndsWith past.end block.bytes
   pub none : HasNoLineLeft (handed_early past (Some block))
 
 -- a line would be too long
-abbrev pub HasLongLine : Fed → Type 0
+abbrev pub HasLongLine : CutterPast → Type 0
 HasLongLine past = Any (λ line. past.longest < length line) (lines past.end past.bytes)
 
 -- the bytes of the open block
@@ -78,7 +78,7 @@ abbrev pub room_of : {A : Type 0} → Cutter A → List ℕ
 room_of cutter = drop cutter.filled cutter.rest.items
 
 -- The cutter stands after this.
-pub record IsCutterAfter {A : Type 0} (cutter : Cutter A) (past : Fed) : Type 0 where
+pub record IsCutterAfter {A : Type 0} (cutter : Cutter A) (past : CutterPast) : Type 0 where
   pub terminator : past.end ≡ cutter.end
   pub file : past.file ≡ cutter.file
   pub size : past.size ≡ cutter.size
@@ -107,5 +107,5 @@ waiting cutter = length cutter.ready.items
 
 -- every past that stood stands, and a drained cutter is drained
 pub record KeepsCutter {A : Type 0} (old new : Cutter A) : Type 0 where
-  pub stands : (past : Fed) → IsCutterAfter old past → IsCutterAfter new past
+  pub stands : (past : CutterPast) → IsCutterAfter old past → IsCutterAfter new past
   pub drained : IsDrained old → IsDrained new

@@ -44,12 +44,21 @@ impl From<AllocError> for CutFault {
     }
 }
 
-/// What a file is cut by: its number, the least size of its blocks, and the terminator of its lines.
+/// What a file is cut by: its number, the least size of its blocks, and the terminator of its lines; and where blocks
+/// get their memory from.
 #[derive(Clone, Copy)]
-struct Cutting {
+struct Cutting<A: Allocator + Copy> {
+    alloc: A,
     file: u32,
     size: u32,
     end: u8,
+}
+
+/// The open block: its number, and how many bytes it has.
+#[derive(Clone, Copy)]
+struct OpenBlock {
+    number: u64,
+    filled: usize,
 }
 
 /// How many bytes of a piece finish the block that begins with `rest`, in which no block is finished. A block has at
@@ -74,8 +83,7 @@ fn first_cut(rest: &[u8], size: u32, end: u8, piece: &[u8]) -> Option<usize>
 /// The finished blocks of some bytes, numbered from `first` on, and where the rest begins. A block has at least one
 /// byte, and no number reaches 2^64.
 fn cut_all<A: Allocator + Copy>(
-    alloc: A,
-    cutting: Cutting,
+    cutting: Cutting<A>,
     first: u64,
     bytes: &[u8],
 ) -> Result<(VecDeque<Block<A>, A>, usize), AllocError>
@@ -86,11 +94,11 @@ fn cut_all<A: Allocator + Copy>(
     ensures cut { IfOk result (λ cut. Cuts cutting.end cutting.size bytes.now cut.0.items (drop cut.1 bytes.now)) }
     ensures numbered { IfOk result (λ cut. AreNumbered cutting.file first cut.0.items) }
 {
-    let mut blocks = VecDeque::new(alloc);
+    let mut blocks = VecDeque::new(cutting.alloc);
     let mut at = 0;
     let mut number = first;
     while let Some(len) = first_cut(&[], cutting.size, cutting.end, &bytes[at..]) {
-        let block = Vec::from_slice(alloc, &bytes[at..at + len])?;
+        let block = Vec::from_slice(cutting.alloc, &bytes[at..at + len])?;
         blocks.push_back(Block {
             file: cutting.file,
             number,
@@ -223,77 +231,71 @@ fn take_front<A: Allocator + Copy>(
     Ok(front)
 }
 
-/// Cuts the blocks off that `count` bytes behind the first `filled` ones of `rest` finish, and leaves there what is
-/// behind them. The first `len` of these bytes finish the first of them, whose size is as `Cutter::new` has it. The
-/// answer is their count, and how many bytes of `rest` are the open block's then. An `Err` leaves both lists as they
-/// were.
+/// Cuts the blocks off that `count` bytes behind those of the open block, with which `rest` begins, finish, and leaves
+/// there what is behind them. The first `len` of these bytes finish the first of them, whose size is as `Cutter::new`
+/// has it. The answer is their count, and how many bytes of `rest` are the open block's then. An `Err` leaves both
+/// lists as they were.
 fn cut_open<A: Allocator + Copy>(
-    alloc: A,
-    cutting: Cutting,
-    number: u64,
+    cutting: Cutting<A>,
+    block: OpenBlock,
     rest: &mut Vec<u8, A>,
     spare: &mut Vec<u8, A>,
     ready: &mut VecDeque<Block<A>, A>,
-    filled: usize,
     count: usize,
     len: usize,
 ) -> Result<(u64, usize), AllocError>
     requires size { (0 < cutting.size) × (cutting.size ≤ 2 ^ 24) }
-    requires number { number + count < 2 ^ 63 }
-    requires within { filled + count ≤ length rest.old.items }
+    requires number { block.number + count < 2 ^ 63 }
+    requires within { block.filled + count ≤ length rest.old.items }
     requires len { (0 < len) × (len ≤ count) }
     requires finished { IsFinished cutting.end cutting.size
-        (take filled rest.old.items ++ take len (take count (drop filled rest.old.items))) }
-    ensures ok { IfOk result (λ cut. CutsOff cutting.end cutting.size cutting.file number
-        (take filled rest.old.items ++ take count (drop filled rest.old.items))
+        (take block.filled rest.old.items ++ take len (take count (drop block.filled rest.old.items))) }
+    ensures ok { IfOk result (λ cut. CutsOff cutting.end cutting.size cutting.file block.number
+        (take block.filled rest.old.items ++ take count (drop block.filled rest.old.items))
         ready.old.items ready.new.items (take cut.1 rest.new.items) cut.0) }
     ensures within { IfOk result (λ cut. cut.1 ≤ length rest.new.items) }
-    ensures few { IfOk result (λ cut. cut.0 + cut.1 ≤ filled + count) }
+    ensures few { IfOk result (λ cut. cut.0 + cut.1 ≤ block.filled + count) }
     ensures err { OnErr result ((rest.new.items ≡ rest.old.items) × (ready.new.items ≡ ready.old.items)) }
 {
-    let (_, room) = rest.as_slice().split_at(filled);
+    let (_, room) = rest.as_slice().split_at(block.filled);
     let piece = &room[..count];
-    let (mut blocks, at) = cut_all(alloc, cutting, number + 1, &piece[len..])?;
+    let (mut blocks, at) = cut_all(cutting, block.number + 1, &piece[len..])?;
     ready.reserve(blocks.len() + 1)?;
     let behind = &piece[len + at..];
-    let left = buffer_behind(alloc, spare, behind)?;
+    let left = buffer_behind(cutting.alloc, spare, behind)?;
     let cut = (blocks.len() as u64 + 1, behind.len());
-    rest.truncate(filled + len);
-    hand_over(cutting.file, number, rest, left, ready, &mut blocks);
+    rest.truncate(block.filled + len);
+    hand_over(cutting.file, block.number, rest, left, ready, &mut blocks);
     Ok(cut)
 }
 
-/// Cuts the blocks off that `count` bytes behind the first `filled` ones of `rest` finish, and leaves there what is
-/// behind them. No block is finished in the first ones, and sizes are as `Cutter::new` has them. The answer is the
-/// count of the blocks, and how many bytes of `rest` are the open block's then. An `Err` leaves both lists as they
+/// Cuts the blocks off that `count` bytes behind those of the open block, with which `rest` begins, finish, and leaves
+/// there what is behind them. The open block isn't finished yet, and sizes are as `Cutter::new` has them. The answer is
+/// the count of the blocks, and how many bytes of `rest` are the open block's then. An `Err` leaves both lists as they
 /// were.
 fn cut_filled<A: Allocator + Copy>(
-    alloc: A,
-    cutting: Cutting,
-    number: u64,
+    cutting: Cutting<A>,
+    block: OpenBlock,
     rest: &mut Vec<u8, A>,
     spare: &mut Vec<u8, A>,
     ready: &mut VecDeque<Block<A>, A>,
-    filled: usize,
     count: usize,
 ) -> Result<(u64, usize), AllocError>
     requires size { (0 < cutting.size) × (cutting.size ≤ 2 ^ 24) }
-    requires number { number + count < 2 ^ 63 }
-    requires within { filled + count ≤ length rest.old.items }
-    requires unfinished { IsUnfinished cutting.end cutting.size (take filled rest.old.items) }
-    ensures ok { IfOk result (λ cut. CutsOff cutting.end cutting.size cutting.file number
-        (take filled rest.old.items ++ take count (drop filled rest.old.items))
+    requires number { block.number + count < 2 ^ 63 }
+    requires within { block.filled + count ≤ length rest.old.items }
+    requires unfinished { IsUnfinished cutting.end cutting.size (take block.filled rest.old.items) }
+    ensures ok { IfOk result (λ cut. CutsOff cutting.end cutting.size cutting.file block.number
+        (take block.filled rest.old.items ++ take count (drop block.filled rest.old.items))
         ready.old.items ready.new.items (take cut.1 rest.new.items) cut.0) }
     ensures within { IfOk result (λ cut. cut.1 ≤ length rest.new.items) }
-    ensures few { IfOk result (λ cut. cut.0 + cut.1 ≤ filled + count) }
+    ensures few { IfOk result (λ cut. cut.0 + cut.1 ≤ block.filled + count) }
     ensures err { OnErr result ((rest.new.items ≡ rest.old.items) × (ready.new.items ≡ ready.old.items)) }
 {
-    let (open, room) = rest.as_slice().split_at(filled);
-    match first_cut(open, cutting.size, cutting.end, &room[..count]) {
-        Some(len) => cut_open(
-            alloc, cutting, number, rest, spare, ready, filled, count, len,
-        ),
-        None => Ok((0, filled + count)),
+    let (begun, room) = rest.as_slice().split_at(block.filled);
+    match first_cut(begun, cutting.size, cutting.end, &room[..count]) {
+        Some(len) => cut_open(cutting, block, rest, spare, ready, count, len),
+        None => Ok((0, block.filled + count)),
     }
 }
 
@@ -349,7 +351,7 @@ impl<A: Allocator + Copy> Drop for Cutter<A> {
 
 impl<A: Allocator + Copy> Cutter<A> {
     ghost use Rattle.std.specs.Borrow.{sem};
-    ghost use Rattle.pg_blocks.specs.Cutter.{Fed, IsCutterAfter, IsDrained, unfed, fed, handed, HasNoneLeft};
+    ghost use Rattle.pg_blocks.specs.Cutter.{CutterPast, IsCutterAfter, IsDrained, unfed, fed, handed, HasNoneLeft};
     ghost use Rattle.pg_blocks.specs.Cutter.{IsNextBlock};
     ghost use Rattle.pg_blocks.specs.Cutter.{AreAllBlocks, HasLongLine, FitsBehind, waiting, room_of, KeepsCutter};
     ghost use Rattle.pg_blocks.specs.Cutter.{handed_early, HasLinesLeft, HasNoLineLeft};
@@ -390,12 +392,12 @@ impl<A: Allocator + Copy> Cutter<A> {
     /// where a line of the bytes so far would be too long. `OutOfMemory` comes where neither holds
     /// and a request for memory was refused.
     pub fn feed(&mut self, piece: &[u8]) -> Result<(), CutFault>
-        ensures ok { (past : Fed) → IsCutterAfter self.old past
+        ensures ok { (past : CutterPast) → IsCutterAfter self.old past
             → OnOk result (IsCutterAfter self.new (fed past piece.now)) }
-        ensures err { (past : Fed) → IsCutterAfter self.old past → OnErr result (IsCutterAfter self.new past) }
-        ensures file { (past : Fed) → IsCutterAfter self.old past →
+        ensures err { (past : CutterPast) → IsCutterAfter self.old past → OnErr result (IsCutterAfter self.new past) }
+        ensures file { (past : CutterPast) → IsCutterAfter self.old past →
             IsErrOf result FileTooLong ↔ (2 ^ 62 < length past.bytes + length piece.now) }
-        ensures line { (past : Fed) → IsCutterAfter self.old past →
+        ensures line { (past : CutterPast) → IsCutterAfter self.old past →
             IsErrOf result LineTooLong
             ↔ ((length past.bytes + length piece.now ≤ 2 ^ 62) × HasLongLine (fed past piece.now)) }
     {
@@ -412,9 +414,9 @@ impl<A: Allocator + Copy> Cutter<A> {
     /// `FileTooLong` and `LineTooLong` as `feed` has them.
     fn line_behind(&self, piece: &[u8]) -> Result<u32, CutFault>
         ensures ok { IfOk result (λ n. FitsBehind self.now piece.now n) }
-        ensures file { (past : Fed) → IsCutterAfter self.now past →
+        ensures file { (past : CutterPast) → IsCutterAfter self.now past →
             IsErrOf result FileTooLong ↔ (2 ^ 62 < length past.bytes + length piece.now) }
-        ensures line { (past : Fed) → IsCutterAfter self.now past →
+        ensures line { (past : CutterPast) → IsCutterAfter self.now past →
             IsErrOf result LineTooLong
             ↔ ((length past.bytes + length piece.now ≤ 2 ^ 62) × HasLongLine (fed past piece.now)) }
     {
@@ -443,24 +445,27 @@ impl<A: Allocator + Copy> Cutter<A> {
     fn take_in(&mut self, count: usize, line: u32) -> Result<(), AllocError>
         requires within { count ≤ length (room_of self.old) }
         requires goes_on { FitsBehind self.old (take count (room_of self.old)) line }
-        ensures ok { (past : Fed) → IsCutterAfter self.old past →
+        ensures ok { (past : CutterPast) → IsCutterAfter self.old past →
             OnOk result (IsCutterAfter self.new (fed past (take count (room_of self.old)))) }
         ensures err { OnErr result (KeepsCutter self.old self.new) }
         ensures same { OnErr result (room_of self.new ≡ room_of self.old) }
     {
         let cutting = Cutting {
+            alloc: self.alloc,
             file: self.file,
             size: self.size,
             end: self.end,
         };
+        let block = OpenBlock {
+            number: self.number,
+            filled: self.filled,
+        };
         let (blocks, filled) = cut_filled(
-            self.alloc,
             cutting,
-            self.number,
+            block,
             &mut self.rest,
             &mut self.spare,
             &mut self.ready,
-            self.filled,
             count,
         )?;
         self.filled = filled;
@@ -517,13 +522,13 @@ impl<A: Allocator + Copy> Cutter<A> {
     /// and a request for memory was refused.
     pub fn fill(&mut self, count: usize) -> Result<(), CutFault>
         requires { count ≤ length (room_of self.old) }
-        ensures ok { (past : Fed) → IsCutterAfter self.old past →
+        ensures ok { (past : CutterPast) → IsCutterAfter self.old past →
             OnOk result (IsCutterAfter self.new (fed past (take count (room_of self.old)))) }
-        ensures err { (past : Fed) → IsCutterAfter self.old past → OnErr result (IsCutterAfter self.new past) }
-        ensures file { (past : Fed) → IsCutterAfter self.old past →
+        ensures err { (past : CutterPast) → IsCutterAfter self.old past → OnErr result (IsCutterAfter self.new past) }
+        ensures file { (past : CutterPast) → IsCutterAfter self.old past →
             IsErrOf result FileTooLong
             ↔ (2 ^ 62 < length past.bytes + length (take count (room_of self.old))) }
-        ensures line { (past : Fed) → IsCutterAfter self.old past →
+        ensures line { (past : CutterPast) → IsCutterAfter self.old past →
             IsErrOf result LineTooLong
             ↔ ((length past.bytes + length (take count (room_of self.old)) ≤ 2 ^ 62)
             × HasLongLine (fed past (take count (room_of self.old)))) }
@@ -549,9 +554,11 @@ impl<A: Allocator + Copy> Cutter<A> {
 
     /// The next finished block. `None` comes only where no finished block is left.
     pub fn take(&mut self) -> Option<Block<A>>
-        ensures stands { (past : Fed) → IsCutterAfter self.old past → IsCutterAfter self.new (handed past result) }
-        ensures next { IfSome result (λ block. (past : Fed) → IsCutterAfter self.old past → IsNextBlock past block) }
-        ensures none { IfNone result (IsDrained self.new × ((past : Fed) → IsCutterAfter self.old past
+        ensures stands { (past : CutterPast) → IsCutterAfter self.old past
+            → IsCutterAfter self.new (handed past result) }
+        ensures next { IfSome result
+            (λ block. (past : CutterPast) → IsCutterAfter self.old past → IsNextBlock past block) }
+        ensures none { IfNone result (IsDrained self.new × ((past : CutterPast) → IsCutterAfter self.old past
             → HasNoneLeft past)) }
         ensures fewer { IfSome result (λ _. waiting self.new < waiting self.old) }
         ensures room { room_of self.new ≡ room_of self.old }
@@ -568,11 +575,11 @@ impl<A: Allocator + Copy> Cutter<A> {
     /// `AllocError` where a request for memory was refused.
     pub fn take_lines(&mut self) -> Result<Option<Block<A>>, AllocError>
         requires { IsDrained self.old }
-        ensures stands { (past : Fed) → IsCutterAfter self.old past →
+        ensures stands { (past : CutterPast) → IsCutterAfter self.old past →
             IfOk result (λ block. IsCutterAfter self.new (handed_early past block)) }
-        ensures some { (past : Fed) → IsCutterAfter self.old past →
+        ensures some { (past : CutterPast) → IsCutterAfter self.old past →
             IfOk result (λ block. IfSome block (λ block. HasLinesLeft past block)) }
-        ensures none { (past : Fed) → IsCutterAfter self.old past →
+        ensures none { (past : CutterPast) → IsCutterAfter self.old past →
             IfOk result (λ block. IfNone block (HasNoLineLeft past)) }
         ensures drained { IsDrained self.new }
         ensures err { OnErr result (KeepsCutter self.old self.new) }
@@ -603,7 +610,7 @@ impl<A: Allocator + Copy> Cutter<A> {
     /// `feed`.
     pub fn finish(self) -> Option<Block<A>>
         requires { IsDrained self }
-        ensures { (past : Fed) → IsCutterAfter self past → AreAllBlocks (handed past result) }
+        ensures { (past : CutterPast) → IsCutterAfter self past → AreAllBlocks (handed past result) }
     {
         let Cutter {
             alloc: _,

@@ -3,7 +3,7 @@ ghost use Rattle.std.specs.Prelude.{◌≡◌, ◌<◌, ℕ, List, []};
 ghost use Rattle.std.specs.List.{flat_map};
 ghost use Rattle.pg_blocks.specs.Lines.{lines, AreLines};
 ghost use Rattle.pg_blocks.specs.Blocks.{BlockData, IsCut, IsCutting, AreNumbered};
-ghost use Rattle.pg_blocks.specs.Cutter.{Fed, AreAllBlocks};
+ghost use Rattle.pg_blocks.specs.Cutter.{CutterPast, AreAllBlocks};
 
 /// Some bytes have lines, and no others than these.
 pub fn lines_are_one()
@@ -26,9 +26,9 @@ pub fn cuts_are_one()
 /// The blocks that a cutter hands out of a file are a cutting of it and have its lines, also where some were handed out
 /// early. Where none was, they are the cut by the size.
 pub fn blocks_keep_lines()
-    ensures cutting { (past : Fed) → AreAllBlocks past → IsCutting past.end past.bytes past.taken }
-    ensures same { (past : Fed) → AreAllBlocks past →
+    ensures cutting { (past : CutterPast) → AreAllBlocks past → IsCutting past.end past.bytes past.taken }
+    ensures same { (past : CutterPast) → AreAllBlocks past →
         flat_map (λ block. lines past.end block.bytes) past.taken ≡ lines past.end past.bytes }
-    ensures by_size { (past : Fed) → past.early ≡ [] → AreAllBlocks past →
+    ensures by_size { (past : CutterPast) → past.early ≡ [] → AreAllBlocks past →
         IsCut past.end past.size past.bytes past.taken }
 {}

@@ -14,7 +14,7 @@ pub record TakeView (T A : Type 0) : Type 0 where
   pub taken : List T
 
 -- a closed tray: what each pass put, and what was taken or handed out, in order
-pub record DeliveredView (T : Type 0) : Type 0 where
+pub record TrayRestView (T : Type 0) : Type 0 where
   pub lists : List (List T)
   pub out : List T
 
@@ -25,5 +25,5 @@ module _ {T A : Type 0} where
   abbrev pub take_view : SegId A → ℕ → List T → TakeView T A
   take_view tray workers taken = record { tray = tray; workers = workers; taken = taken }
 
-abbrev pub delivered : {T : Type 0} → List (List T) → List T → DeliveredView T
+abbrev pub delivered : {T : Type 0} → List (List T) → List T → TrayRestView T
 delivered lists out = record { lists = lists; out = out }

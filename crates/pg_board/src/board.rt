@@ -39,7 +39,7 @@ impl<A: Allocator> Model for Board<A> {
 
 /// Which numbers the seats of a closed board have drawn.
 #[derive(Clone, Copy, Debug, PartialEq, Eq)]
-pub struct Drawn {
+pub struct DrawnNumbers {
     /// All numbers below this one, each once.
     pub upto: u32,
 }
@@ -154,7 +154,7 @@ impl<A: Allocator> Board<A> {
 
     /// Ends the board with all its seats, in any order. Together they drew the numbers below `upto`, each once, and
     /// `upto` is the limit where one of them is spent.
-    pub fn close(self, seats: Vec<Seat, A>) -> Drawn
+    pub fn close(self, seats: Vec<Seat, A>) -> DrawnNumbers
         requires board { All (λ s. s.board ≡ self) seats.items }
         requires all { vec_len seats ≡ self.seats }
         ensures drawn { (x : ℕ) → times x (flat_map (λ s. s.drawn) seats.items) ≡ once_below x result.upto }
@@ -163,7 +163,7 @@ impl<A: Allocator> Board<A> {
     {
         let Board { word, size } = self;
         let whole = join(&word, seats, size);
-        Drawn {
+        DrawnNumbers {
             upto: finish(word, whole, size),
         }
     }

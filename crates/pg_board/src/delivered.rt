@@ -13,17 +13,17 @@ use std::sync::Wait;
 /// What is left of a closed tray, and is handed out one by one.
 ///
 /// Contracts see what each pass put, and what was taken or handed out, in order.
-pub struct Delivered<T, A: Allocator = Global> {
+pub struct TrayRest<T, A: Allocator = Global> {
     pub(crate) queue: Queue<T, A>,
     pub(crate) ticket: Ticket<T, A>,
 }
 
-impl<T, A: Allocator> Model for Delivered<T, A> {
+impl<T, A: Allocator> Model for TrayRest<T, A> {
     ghost use Rattle.std.specs.Prelude.{◌≡◌, None, length};
-    ghost use Rattle.pg_board.specs.Tray.{DeliveredView, delivered};
+    ghost use Rattle.pg_board.specs.Tray.{TrayRestView, delivered};
     ghost use Rattle.pg_board.specs.TrayRule.{lists_of, values_of};
 
-    ghost Value = { DeliveredView T };
+    ghost Value = { TrayRestView T };
 
     ghost view = { λ d. delivered (lists_of d.ticket.me.view.client.passes) (values_of d.ticket.me.view.client.taken) };
 
@@ -32,7 +32,7 @@ impl<T, A: Allocator> Model for Delivered<T, A> {
         × (d.ticket.me.view.client.made ≡ length d.ticket.me.view.client.passes) };
 }
 
-impl<T: Drop, A: Allocator> Delivered<T, A> {
+impl<T: Drop, A: Allocator> TrayRest<T, A> {
     /// Hands out the next value that was left, in order. `None` comes exactly where all that was put was taken or
     /// handed out.
     pub fn next<R: Wait>(&mut self, rt: &R) -> Option<T>
@@ -45,9 +45,9 @@ impl<T: Drop, A: Allocator> Delivered<T, A> {
     }
 }
 
-impl<T: Drop, A: Allocator> Drop for Delivered<T, A> {
+impl<T: Drop, A: Allocator> Drop for TrayRest<T, A> {
     fn drop(self) {
-        let Delivered { queue, ticket: _ } = self;
+        let TrayRest { queue, ticket: _ } = self;
         queue.destroy();
     }
 }

@@ -1,6 +1,6 @@
 //! What trays and their passes are made of.
 use crate::puts::{Entry, MergeRule, PassView};
-use crate::{Delivered, PutPass, TakePass, Tray};
+use crate::{PutPass, TakePass, Tray, TrayRest};
 use crossbeam_queue::{RuledSegQueue, SegPass};
 use std::alloc::Allocator;
 
@@ -10,7 +10,7 @@ pub fn trays_have_no_lock<T, A: Allocator>(
     tray: &Tray<T, A>,
     put: &PutPass<T, A>,
     take: &TakePass<T, A>,
-    left: &Delivered<T, A>,
+    left: &TrayRest<T, A>,
 ) {
     let Tray { queue } = tray;
     let _queue: &RuledSegQueue<Entry<T>, PassView<T>, MergeRule, A> = queue;
@@ -19,7 +19,7 @@ pub fn trays_have_no_lock<T, A: Allocator>(
     let _number: &u32 = number;
     let TakePass { ticket } = take;
     let _ticket: &SegPass<Entry<T>, PassView<T>, A> = ticket;
-    let Delivered { queue, ticket } = left;
+    let TrayRest { queue, ticket } = left;
     let _queue: &RuledSegQueue<Entry<T>, PassView<T>, MergeRule, A> = queue;
     let _ticket: &SegPass<Entry<T>, PassView<T>, A> = ticket;
 }

@@ -5,7 +5,7 @@ ghost use Rattle.crossbeam_queue.specs.SegTies.{IsSegPassOf};
 ghost use Rattle.pg_board.specs.Tray.{put_view, take_view, delivered};
 ghost use Rattle.pg_board.specs.TrayRule.{lists_of};
 
-use crate::delivered::Delivered;
+use crate::delivered::TrayRest;
 use crate::pass::{PutPass, TakePass, Ticket};
 use crate::puts::{Entry, MergeRule, NewPass, PassBack, PassView, Put, Take};
 use crossbeam_queue::RuledSegQueue;
@@ -113,7 +113,7 @@ impl<T: Drop, A: Allocator> Tray<T, A> {
 
     /// Ends the tray with all its passes, in any order. What was taken, and then all that is handed out, is a merge
     /// of what the passes put.
-    pub fn close(self, passes: Vec<PutPass<T, A>, A>, pass: TakePass<T, A>) -> Delivered<T, A>
+    pub fn close(self, passes: Vec<PutPass<T, A>, A>, pass: TakePass<T, A>) -> TrayRest<T, A>
         requires take { pass.tray ≡ self }
         requires all { All (λ p. p.tray ≡ self) passes.items × (vec_len passes ≡ pass.workers) }
         ensures { result ≡ delivered (map (λ p. p.put) passes.items) pass.taken }
@@ -121,7 +121,7 @@ impl<T: Drop, A: Allocator> Tray<T, A> {
         let Tray { queue } = self;
         let TakePass { mut ticket } = pass;
         gather(&queue, passes, &mut ticket);
-        Delivered { queue, ticket }
+        TrayRest { queue, ticket }
     }
 }
 

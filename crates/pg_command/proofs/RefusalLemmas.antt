@@ -3,7 +3,7 @@ use Rattle.std.proofs.Common.{ℕ, Bool, ◌⊎◌, inl, inr, refl, subst, sym, 
 use Rattle.std.specs.Result.{IsErr}
 use Rattle.std.specs.String.{string_bytes}
 use Rattle.pg_walk.specs.Answers.{Answers as Tree}
-use Rattle.pg_files.specs.Given.{Given}
+use Rattle.pg_files.specs.Given.{FileOutcome}
 use Rattle.pg_base.specs.Sink.{Stream}
 use Rattle.std.specs.Prelude.{List}
 use Rattle.pg_words.specs.Asks.{Asks}
@@ -15,7 +15,7 @@ use Rattle.pg_command.specs.Command.{Does, RefusesWords, TellsOfWords}
 use Rattle.pg_report.specs.Told.{line_of}
 use Rattle.pg_request.specs.declared.fault.Fault.TheVariants.{OutOfMemory}
 
-pub refusal_told : {T : Type 0} (tells : Type 0) (tree : Tree) (terminal : Bool) (past : List Given)
+pub refusal_told : {T : Type 0} (tells : Type 0) (tree : Tree) (terminal : Bool) (past : List FileOutcome)
     (out err err' : Stream) (answer : Result ℕ T) (fault : WordsFault) (asked_for : Asks) → IsFault asked_for fault
     → TellsOfWords fault err err' → IsErr answer
     → Does tells tree terminal asked_for past past out out err err' answer

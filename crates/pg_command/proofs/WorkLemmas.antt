@@ -6,7 +6,7 @@ use Rattle.pg_walk.specs.Left.{BeginsWalk, IsWalk}
 use Rattle.pg_walk.specs.Scopes.{Scope}
 use Rattle.pg_walk.specs.declared.item.Item.{Item}
 use Rattle.pg_selection.specs.Search.{Search, SearchText}
-use Rattle.pg_files.specs.Given.{Given, names_in}
+use Rattle.pg_files.specs.Given.{FileOutcome, names_in}
 use Rattle.pg_files.specs.Listed.{asked_for, file_paths, files_past, AreOpened, AreSpared, Sought, sought}
 use Rattle.pg_base.specs.Sink.{Stream}
 use Rattle.pg_run.specs.Outcome.{RunFinishes}
@@ -17,7 +17,7 @@ use Rattle.pg_command.specs.Answers.{HasReadFor, IsSetup, MayBeNames, Work}
 use Rattle.pg_request.specs.Asked.{Asked, input_name, scope_for, spares_output}
 
 -- what a walk over the operands looks for, behind what was given before
-abbrev pub sought_for : {X : Type 0} → X → Asked → (globs : List (List ℕ)) → List Given → Sought X
+abbrev pub sought_for : {X : Type 0} → X → Asked → (globs : List (List ℕ)) → List FileOutcome → Sought X
 sought_for tree asked globs earlier = record {
   tree = tree;
   operands = asked.files;
@@ -28,12 +28,12 @@ sought_for tree asked globs earlier = record {
 }
 
 -- it is looked for, part by part
-pub is_sought : {X : Type 0} (tree : X) (asked : Asked) (globs : List (List ℕ)) (earlier : List Given) (s : Sought X)
-    → s.tree ≡ tree
+pub is_sought : {X : Type 0} (tree : X) (asked : Asked) (globs : List (List ℕ)) (earlier : List FileOutcome)
+    (s : Sought X) → s.tree ≡ tree
     → s.operands ≡ asked.files → s.scope ≡ scope_for asked globs → s.spares ≡ spares_output asked.format.mode
     → s.input_name ≡ input_name asked → s.earlier ≡ earlier → s ≡ sought_for tree asked globs earlier
 is_sought {X} tree asked globs earlier s t o r p n e =
-    let at : X → List (List ℕ) → Scope → Bool → List ℕ → List Given → Sought X = λ a b c d i f.
+    let at : X → List (List ℕ) → Scope → Bool → List ℕ → List FileOutcome → Sought X = λ a b c d i f.
     record { tree = a; operands = b; scope = c; spares = d; input_name = i; earlier = f } in
     ap (λ a. at a s.operands s.scope s.spares s.input_name s.earlier) t
     ∙ (ap (λ b. at tree b s.scope s.spares s.input_name s.earlier) o
@@ -45,7 +45,7 @@ is_sought {X} tree asked globs earlier s t o r p n e =
 -- and so where nothing was asked for yet
 pub first_sought : {X A : Type 0} (tree tree' : X) (asked : Asked) (globs : List (List ℕ)) (items : List (Item A))
     (operands : List (List ℕ))
-    (scope : Scope) (spares : Bool) (input : List ℕ) (past between : List Given) → items ≡ [] → tree' ≡ tree
+    (scope : Scope) (spares : Bool) (input : List ℕ) (past between : List FileOutcome) → items ≡ [] → tree' ≡ tree
     → operands ≡ asked.files → scope ≡ scope_for asked globs → spares ≡ spares_output asked.format.mode
     → input ≡ input_name asked → past ≡ between
     → sought tree' operands scope spares input (asked_for items) past ≡ sought_for tree asked globs between
@@ -55,8 +55,9 @@ first_sought tree tree' asked globs items operands scope spares input past betwe
 
 -- Where it is so at the end of a run.
 module _ {X : Type 0} (tells : X → Type 0) (answers : X → Tree) (tree : X) (asked : Asked)
-    (globs : List (List ℕ)) (between : List Given) (s : Sought X) (is : s ≡ sought_for tree asked globs between) where
-  abbrev pub work_of : {A : Type 0} → (past past' : List Given) → (contents : List (List ℕ))
+    (globs : List (List ℕ)) (between : List FileOutcome) (s : Sought X)
+    (is : s ≡ sought_for tree asked globs between) where
+  abbrev pub work_of : {A : Type 0} → (past past' : List FileOutcome) → (contents : List (List ℕ))
       → HasReadFor asked past between contents globs → (items : List (Item A))
       → ∥ BeginsWalk (tells s.tree) (answers s.tree) s.operands s.scope (map found items) ∥₁ → (setup : Setup)
       → IsSetup (tells tree) (answers tree) asked setup → (done : Bool)
@@ -85,7 +86,7 @@ module _ {X : Type 0} (tells : X → Type 0) (answers : X → Tree) (tree : X) (
         earlier = earlier ∙ ap (λ q. q.earlier) is;
       }
 
-  pub finishes_so : (search : Search) (setup : Setup) (done : Bool) (asked_so : List Found) (past : List Given)
+  pub finishes_so : (search : Search) (setup : Setup) (done : Bool) (asked_so : List Found) (past : List FileOutcome)
       (out out' told told' : Stream) (status : ℕ)
       → RunFinishes search setup (λ names. (items : List Found)
       × ∥ IsWalk (tells s.tree) (answers s.tree) s.operands s.scope items ∥₁ × (names ≡ names_in s.input_name items))
@@ -99,7 +100,7 @@ module _ {X : Type 0} (tells : X → Type 0) (answers : X → Tree) (tree : X) (
       (files_past q.input_name done asked_so past) out out' told told' status in
       subst F is f
 
-  pub breaks_so : (text : SearchText) (setup : Setup) (done : Bool) (asked_so : List Found) (past : List Given)
+  pub breaks_so : (text : SearchText) (setup : Setup) (done : Bool) (asked_so : List Found) (past : List FileOutcome)
       (out out' told told' : Stream) (fault : SearchFault)
       → SearchBreaksOff text setup (files_past s.input_name done asked_so past) out out' told told' fault
       → SearchBreaksOff text setup (files_past (input_name asked) done asked_so past) out out' told told' fault

@@ -12,5 +12,5 @@ mod words;
 pub use pg_report::report;
 pub use pg_request::Fault;
 pub use program::{command, run};
-pub use search::{Told, answer};
+pub use search::{ToldFault, answer};
 pub use words::{Call, words_of};

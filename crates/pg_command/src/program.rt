@@ -4,10 +4,10 @@ ghost use Rattle.std.specs.String.{string_bytes};
 ghost use Rattle.pg_command.specs.Command.{Commands, IsShown, RunsCommand, TellsOfWords};
 ghost use Rattle.pg_report.specs.Told.{TellsFault};
 
-use crate::search::{Told, answer};
+use crate::search::{ToldFault, answer};
 use crate::words::Call;
 use pg_base::{Out, Sink, write_all};
-use pg_files::{Listed, Store};
+use pg_files::{OperandFiles, Store};
 use pg_report::{FAULT_STATUS, report, tell_parts};
 use pg_request::{Fault, request_on};
 use pg_walk::Prefetch;
@@ -24,7 +24,7 @@ use std::time::Clock;
 ///
 /// # Errors
 ///
-/// `Told` where a fault ended it, whose line went to `err`; the words are looked at first.
+/// `ToldFault` where a fault ended it, whose line went to `err`; the words are looked at first.
 pub fn command<
     't,
     R: Threads + Wait + Clock + Sync,
@@ -37,10 +37,10 @@ pub fn command<
     alloc: Global,
     call: &Call,
     tree: &'t T,
-    files: &mut Listed<'t, T, S>,
+    files: &mut OperandFiles<'t, T, S>,
     out: &mut W,
     err: &mut E,
-) -> Result<u8, Told>
+) -> Result<u8, ToldFault>
     requires { files.old.walk.asked.items ≡ [] }
     ensures commands { Commands (T.tells tree.now) (T.answers tree.now) call.now.terminal
         (map string_bytes call.now.words.items) (S.past files.old.store) (S.past files.new.store)
@@ -61,8 +61,8 @@ pub fn command<
     }
 }
 
-/// Tells why the words aren't taken. The answer is always `Told`.
-fn refuse<E: Sink>(alloc: Global, fault: WordsFault, err: &mut E) -> Result<u8, Told>
+/// Tells why the words aren't taken. The answer is always `ToldFault`.
+fn refuse<E: Sink>(alloc: Global, fault: WordsFault, err: &mut E) -> Result<u8, ToldFault>
     ensures fault { IsErr result }
     ensures told { TellsOfWords fault (E.stream err.old) (E.stream err.new) }
 {
@@ -77,17 +77,22 @@ fn refuse<E: Sink>(alloc: Global, fault: WordsFault, err: &mut E) -> Result<u8, 
             report(alloc, Fault::OutOfMemory, err);
         }
     }
-    Err(Told)
+    Err(ToldFault)
 }
 
 /// Writes a text that was asked for.
-fn show<W: Sink, E: Sink>(alloc: Global, text: &str, out: &mut W, err: &mut E) -> Result<u8, Told>
+fn show<W: Sink, E: Sink>(
+    alloc: Global,
+    text: &str,
+    out: &mut W,
+    err: &mut E,
+) -> Result<u8, ToldFault>
     ensures { IsShown text.now (W.stream out.old) (W.stream out.new) (E.stream err.old)
         (E.stream err.new) result }
 {
     if write_all(out, text.as_bytes()).is_err() {
         report(alloc, Fault::WriteFailed, err);
-        return Err(Told);
+        return Err(ToldFault);
     }
     Ok(0)
 }
@@ -107,7 +112,7 @@ pub fn run<
     alloc: Global,
     call: Result<Call, Fault<'_>>,
     tree: &'t T,
-    files: &mut Listed<'t, T, S>,
+    files: &mut OperandFiles<'t, T, S>,
     out: &mut Out<W>,
     err: &mut E,
 ) -> u8
@@ -140,7 +145,7 @@ fn run_call<
     alloc: Global,
     call: &Call,
     tree: &'t T,
-    files: &mut Listed<'t, T, S>,
+    files: &mut OperandFiles<'t, T, S>,
     out: &mut Out<W>,
     err: &mut E,
 ) -> u8
@@ -155,6 +160,6 @@ fn run_call<
     match answer {
         Ok(_) if flushed.is_err() => report(alloc, Fault::WriteFailed, err),
         Ok(status) => status,
-        Err(Told) => FAULT_STATUS,
+        Err(ToldFault) => FAULT_STATUS,
     }
 }

@@ -9,7 +9,7 @@ ghost use Rattle.pg_request.specs.Reading.{contents_of};
 
 use crate::fault::fault_of_search;
 use pg_base::Sink;
-use pg_files::{Listed, STANDARD_INPUT, Store};
+use pg_files::{OperandFiles, STANDARD_INPUT, Store};
 use pg_report::tell_of_search;
 use pg_request::{
     Fault, is_directory, operands_of, read_globs, read_patterns, read_scope, text_of,
@@ -33,7 +33,7 @@ const MOST_HELPERS: u32 = 3;
 
 /// A fault was told, and the status is 2.
 #[derive(Clone, Copy, Debug, PartialEq, Eq)]
-pub struct Told;
+pub struct ToldFault;
 
 /// Searches the files that a request names, which a walk over its operands in a tree gives and the store of `files`
 /// opens, each when its turn comes. What is asked for of them goes to `out`, in the request's format; rows call a file
@@ -45,9 +45,9 @@ pub struct Told;
 ///
 /// # Errors
 ///
-/// `Told` where a fault ended the search, whose lines went to `err`: that of the first -f file that can't be read, then
-/// that of the first file of globs, then that of the patterns, the first of them that has one, or of their size, and
-/// then those that end a run; or, at any time, that a request for memory was refused. `out` got a beginning of its
+/// `ToldFault` where a fault ended the search, whose lines went to `err`: that of the first -f file that can't be read,
+/// then that of the first file of globs, then that of the patterns, the first of them that has one, or of their size,
+/// and then those that end a run; or, at any time, that a request for memory was refused. `out` got a beginning of its
 /// output then.
 pub fn answer<
     't,
@@ -61,10 +61,10 @@ pub fn answer<
     alloc: Global,
     request: &Request<'_>,
     tree: &'t T,
-    files: &mut Listed<'t, T, S>,
+    files: &mut OperandFiles<'t, T, S>,
     out: &mut W,
     err: &mut E,
-) -> Result<u8, Told>
+) -> Result<u8, ToldFault>
     requires { files.old.walk.asked.items ≡ [] }
     ensures answers { AnswersSearch (T.tells tree.now) (T.answers tree.now) (asked_of request.now)
         (S.past files.old.store) (S.past files.new.store) (W.stream out.old) (W.stream out.new)
@@ -75,7 +75,7 @@ pub fn answer<
         Ok(status) => Ok(status),
         Err(fault) => {
             tell_of_search(alloc, request.texts.as_slice(), fault, err);
-            Err(Told)
+            Err(ToldFault)
         }
     }
 }
@@ -95,7 +95,7 @@ fn search<
     alloc: Global,
     request: &Request<'a>,
     tree: &'t T,
-    files: &mut Listed<'t, T, S>,
+    files: &mut OperandFiles<'t, T, S>,
     out: &mut W,
     err: &mut E,
 ) -> Result<u8, Fault<'a>>
@@ -126,7 +126,7 @@ fn list_files<'t, R: Threads, T: Prefetch<Helper: Send + Sync> + Send + Sync, S:
     request: &Request<'_>,
     globs: &[Vec<u8>],
     tree: &'t T,
-    files: &mut Listed<'t, T, S>,
+    files: &mut OperandFiles<'t, T, S>,
 ) -> Result<Setup, AllocError>
     ensures fresh { OnOk result ((files.new.walk.asked.items ≡ []) × (files.new.done ≡ false)) }
     ensures store { files.new.store ≡ files.old.store }

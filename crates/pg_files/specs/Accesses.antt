@@ -1,21 +1,21 @@
 -- What was kept of the paths that were opened, as what they gave.
 use Rattle.std.specs.Prelude.{ℕ, Bool, if◌then◌else◌, List, [], ◌∷◌, map, reverse, Option, Some, None}
 use Rattle.pg_base.specs.Entries.{Left, Ended, Failed}
-use Rattle.pg_files.specs.Given.{Given, NoFile, File}
+use Rattle.pg_files.specs.Given.{FileOutcome, NoFile, File}
 use Rattle.pg_files.specs.declared.past.Access.{Access}
 use Rattle.pg_files.specs.declared.past.Reading.{Reading}
 use Rattle.pg_files.specs.declared.past.Reading.TheVariants.{Refused, Unfinished, Finished, Broken}
 
-abbrev pub given_as : (path bytes : List ℕ) → Reading → Given
+abbrev pub given_as : (path bytes : List ℕ) → Reading → FileOutcome
 given_as path bytes (Refused cause) = NoFile path cause
 given_as path bytes Unfinished = File path bytes Left
 given_as path bytes Finished = File path bytes Ended
 given_as path bytes Broken = File path bytes Failed
 
-abbrev pub given_of : Access → Given
+abbrev pub given_of : Access → FileOutcome
 given_of access = given_as access.path.items access.bytes.items access.reading
 
-abbrev pub newest_of : Option Access → List Given → List Given
+abbrev pub newest_of : Option Access → List FileOutcome → List FileOutcome
 newest_of None earlier = []
 newest_of (Some access) earlier = given_of access ∷ earlier
 
@@ -27,5 +27,5 @@ ended failed Finished = if failed then Broken else Finished
 ended failed Broken = if failed then Broken else Finished
 
 -- The earlier accesses stand in their order, and then the newest; without a newest there is none.
-abbrev pub past_of : List Access → Option Access → List Given
+abbrev pub past_of : List Access → Option Access → List FileOutcome
 past_of earlier newest = newest_of newest (reverse (map given_of earlier))

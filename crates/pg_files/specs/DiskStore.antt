@@ -1,28 +1,28 @@
 -- What a store of the system's files shows.
 use Rattle.std.specs.Prelude.{ℕ, nat_eq, List, Option, None, Some, codes, drop, if◌then◌else◌}
 use lib.Pointwise.{pointwise}
-use Rattle.pg_files.specs.Given.{Given}
+use Rattle.pg_files.specs.Given.{FileOutcome}
 use Rattle.pg_files.specs.declared.disk_store.Source.{Source}
 use Rattle.pg_files.specs.declared.disk_store.Source.TheVariants.{Closed, Standard, Open, Whole}
 
 -- what is read: nothing, standard input, a file, or one that was read ahead
-pub data Opened : Type 0 where
-  Nothing : Opened
-  StandardInput : Opened
-  AFile : Opened
-  AWholeFile : Opened
+pub data SourceKind : Type 0 where
+  Nothing : SourceKind
+  StandardInput : SourceKind
+  AFile : SourceKind
+  AWholeFile : SourceKind
 
 -- what the files gave, what is open, and the bytes that it is known to have left
 pub record DiskData : Type 0 where
-  pub past : List Given
-  pub reads : Opened
+  pub past : List FileOutcome
+  pub reads : SourceKind
   pub left : Option (List ℕ)
 
 -- a path opens a file, and `-` standard input
-abbrev pub opened_by : List ℕ → Opened
+abbrev pub opened_by : List ℕ → SourceKind
 opened_by path = if pointwise nat_eq path (codes "-") then StandardInput else AFile
 
-abbrev pub opened : {I F : Type 0} → Source I F → Opened
+abbrev pub opened : {I F : Type 0} → Source I F → SourceKind
 opened Closed = Nothing
 opened (Standard input) = StandardInput
 opened (Open file) = AFile

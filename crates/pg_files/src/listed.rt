@@ -18,7 +18,7 @@ use std::alloc::{AllocError, Global};
 pub const STANDARD_INPUT: &str = "(standard input)";
 
 /// A walk, and the items of it that were asked for.
-pub struct Walked<'t, T: FileTree> {
+pub struct FileWalk<'t, T: FileTree> {
     /// What is walked over. This takes no memory.
     pub operands: History<String>,
     /// What is left of the walk.
@@ -29,9 +29,9 @@ pub struct Walked<'t, T: FileTree> {
     pub newest: Option<Item>,
 }
 
-impl<T: FileTree> Drop for Walked<'_, T> {
+impl<T: FileTree> Drop for FileWalk<'_, T> {
     fn drop(self) {
-        let Walked {
+        let FileWalk {
             operands: _,
             walker: _,
             asked: _,
@@ -40,14 +40,14 @@ impl<T: FileTree> Drop for Walked<'_, T> {
     }
 }
 
-impl<'t, T: FileTree> Walked<'t, T> {
+impl<'t, T: FileTree> FileWalk<'t, T> {
     /// A walk over operands of which nothing was asked.
     fn new(
         alloc: Global,
         tree: &'t T,
         operands: &[String],
         scope: Scope,
-    ) -> Result<Walked<'t, T>, AllocError>
+    ) -> Result<FileWalk<'t, T>, AllocError>
         ensures walk { IfOk result (λ walk. (walk.walker.tree.now ≡ tree.now) × (walk.walker.scope ≡ scope)
             × (walk.operands.items ≡ operands.now)) }
         ensures fresh { IfOk result (λ walk. (walk.asked.items ≡ []) × (walk.newest ≡ None)) }
@@ -58,7 +58,7 @@ impl<'t, T: FileTree> Walked<'t, T> {
         let walker = Walker::new(alloc, tree, operands, scope)?;
         let mut named = History::new();
         named.extend(operands);
-        Ok(Walked {
+        Ok(FileWalk {
             operands: named,
             walker,
             asked: History::new(),
@@ -68,9 +68,9 @@ impl<'t, T: FileTree> Walked<'t, T> {
 }
 
 /// The items of a walk, each asked of the walk when its turn comes and its file then opened in a store.
-pub struct Listed<'t, T: FileTree, S: Store + Drop> {
+pub struct OperandFiles<'t, T: FileTree, S: Store + Drop> {
     /// What is given.
-    pub walk: Walked<'t, T>,
+    pub walk: FileWalk<'t, T>,
     /// Memory was lacking, and so the walk can't go on.
     pub broken: bool,
     /// It was told that there is no more.
@@ -93,9 +93,9 @@ pub struct Listed<'t, T: FileTree, S: Store + Drop> {
     ghost are_spared: { AreSpared spares_output (asked_for walk.asked.items) (S.past store) },
 }
 
-impl<T: FileTree, S: Store + Drop> Drop for Listed<'_, T, S> {
+impl<T: FileTree, S: Store + Drop> Drop for OperandFiles<'_, T, S> {
     fn drop(self) {
-        let Listed {
+        let OperandFiles {
             walk: _,
             broken: _,
             done: _,
@@ -106,22 +106,22 @@ impl<T: FileTree, S: Store + Drop> Drop for Listed<'_, T, S> {
     }
 }
 
-impl<'t, T: FileTree, S: Store + Drop> Listed<'t, T, S> {
+impl<'t, T: FileTree, S: Store + Drop> OperandFiles<'t, T, S> {
     /// A list over no operands: its first `next` answers `Done`.
-    pub fn new(alloc: Global, tree: &'t T, store: S) -> Listed<'t, T, S>
+    pub fn new(alloc: Global, tree: &'t T, store: S) -> OperandFiles<'t, T, S>
         ensures nothing { result.walk.operands.items ≡ [] }
         ensures fresh { (result.walk.asked.items ≡ []) × (result.done ≡ false) × (result.broken ≡ false) }
         ensures store { result.store ≡ store }
     {
         let walker = Walker::over_nothing(alloc, tree);
         what_is_given(&walker);
-        let walk = Walked {
+        let walk = FileWalk {
             operands: History::new(),
             walker,
             asked: History::new(),
             newest: None,
         };
-        Listed {
+        OperandFiles {
             walk,
             broken: false,
             done: false,
@@ -156,7 +156,7 @@ impl<'t, T: FileTree, S: Store + Drop> Listed<'t, T, S> {
         ensures store { self.new.store ≡ self.old.store }
         ensures err { OnErr result (self.new ≡ self.old) }
     {
-        let walk = Walked::new(alloc, tree, operands, scope)?;
+        let walk = FileWalk::new(alloc, tree, operands, scope)?;
         what_is_given(&walk.walker);
         self.done = false;
         self.walk = walk;
@@ -167,7 +167,7 @@ impl<'t, T: FileTree, S: Store + Drop> Listed<'t, T, S> {
     }
 }
 
-impl<T: FileTree, S: Store + Drop> Files for Listed<'_, T, S> {
+impl<T: FileTree, S: Store + Drop> Files for OperandFiles<'_, T, S> {
     ghost use Rattle.std.specs.Prelude.{List, map};
     ghost use Rattle.std.specs.String.{string_bytes};
     ghost use Rattle.pg_walk.specs.Items.{Found};

@@ -5,7 +5,7 @@ ghost use Rattle.pg_files.specs.Asking.{ReadGives};
 ghost use Rattle.pg_files.specs.Store.{Opens};
 
 use crate::files::ReadFault;
-use crate::listed::Listed;
+use crate::listed::OperandFiles;
 use crate::past::StorePast;
 use crate::store::{OpenFault, Store};
 use pg_base::Cause;
@@ -38,7 +38,7 @@ impl Drop for MemFile {
 }
 
 /// Files in memory, found in a tree in memory.
-pub type MemFiles<'t> = Listed<'t, MemTree, MemStore>;
+pub type MemFiles<'t> = OperandFiles<'t, MemTree, MemStore>;
 
 /// Files in memory. Standard input is the file at `-`.
 pub struct MemStore {

@@ -1,6 +1,6 @@
 //! What a store gave, for contracts alone.
 ghost use Rattle.std.specs.Prelude.{◌≡◌, List, [], ◌∷◌};
-ghost use Rattle.pg_files.specs.Given.{Given, NoFile, File, gave_bytes, gave_end};
+ghost use Rattle.pg_files.specs.Given.{FileOutcome, NoFile, File, gave_bytes, gave_end};
 ghost use Rattle.pg_files.specs.Accesses.{ended, given_as};
 ghost use Rattle.pg_base.specs.Entries.{Left};
 
@@ -58,10 +58,10 @@ impl Drop for StorePast {
 
 impl Model for StorePast {
     ghost use Rattle.std.specs.Prelude.{List};
-    ghost use Rattle.pg_files.specs.Given.{Given};
+    ghost use Rattle.pg_files.specs.Given.{FileOutcome};
     ghost use Rattle.pg_files.specs.Accesses.{past_of};
 
-    ghost Value = { List Given };
+    ghost Value = { List FileOutcome };
 
     ghost view = { λ p. past_of p.earlier.items p.newest };
 }

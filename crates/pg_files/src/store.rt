@@ -1,6 +1,6 @@
 //! Files by their paths.
 ghost use Rattle.std.specs.Prelude.{◌≡◌, ◌<◌, length, List};
-ghost use Rattle.pg_files.specs.Given.{Given};
+ghost use Rattle.pg_files.specs.Given.{FileOutcome};
 ghost use Rattle.pg_files.specs.Asking.{ReadGives};
 ghost use Rattle.pg_files.specs.Store.{Opens};
 
@@ -19,7 +19,7 @@ pub enum OpenFault {
 /// Files that are opened by their paths and read one at a time.
 pub trait Store {
     /// What the files gave, by their paths.
-    ghost past: { Self → List Given };
+    ghost past: { Self → List FileOutcome };
 
     /// Makes the file at a path, or for `-` standard input, the one that `read` reads. Where
     /// `spares_output` is true, the file that the output goes to is refused, for it would be read on as

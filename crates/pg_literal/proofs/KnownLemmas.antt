@@ -17,7 +17,7 @@ use Rattle.pg_literal.proofs.RowLemmas.{stands_within}
 use Rattle.pg_literal.specs.Rows.{StandsAt, row_of}
 use Rattle.pg_literal.specs.Known.{head_of, sets_of, HasRows, IsSureAt, MatchesEmpty, Extends, Hides, HidesOthers}
 use Rattle.pg_literal.specs.Known.{Repeats}
-use Rattle.pg_literal.specs.declared.known.Known.{Known}
+use Rattle.pg_literal.specs.declared.known.MatchFacts.{MatchFacts}
 
 -- spans that go forward do so one behind the other too
 pub chain_forward : (Span : ℕ → ℕ → Type 0) → ((i j : ℕ) → Span i j → i ≤ j) → (count i j : ℕ) → Chain Span count i j
@@ -121,7 +121,7 @@ cat_spelled fold p q text spells =
 
 module _ {A : Type 0} (fold : Bool) where
   -- the empty pattern
-  pub extends_empty : (rest : Known A) → Extends fold Empty rest rest
+  pub extends_empty : (rest : MatchFacts A) → Extends fold Empty rest rest
   unfolding Shape
   extends_empty rest = record {
     rows = λ line i j m has. subst (HasRows rest line) (sym m) has;
@@ -131,7 +131,7 @@ module _ {A : Type 0} (fold : Bool) where
   }
 
   -- one set
-  pub extends_set : (set : ByteSet) (rest whole : Known A) → whole.head.items ≡ rest.head.items ++ set ∷ []
+  pub extends_set : (set : ByteSet) (rest whole : MatchFacts A) → whole.head.items ≡ rest.head.items ++ set ∷ []
       → whole.best.items ≡ rest.best.items → whole.is_sure ≡ rest.is_sure → whole.is_best_sure ≡ false
       → Extends fold (Set (bytes set)) rest whole
   unfolding Shape
@@ -163,7 +163,7 @@ module _ {A : Type 0} (fold : Bool) where
 
   -- an anchor, which matches no byte: both rows stay, and neither is sure
   anchored : (p : Pattern) → ((line : List ℕ) (i j : ℕ) → Match p line i j → j ≡ i)
-      → ((text : List ℕ) → Spells Fixed fold text p → ⊥) → (rest whole : Known A)
+      → ((text : List ℕ) → Spells Fixed fold text p → ⊥) → (rest whole : MatchFacts A)
       → whole.head.items ≡ rest.head.items → whole.best.items ≡ rest.best.items → whole.is_sure ≡ false
       → whole.is_best_sure ≡ false → Extends fold p rest whole
   anchored p stays none rest whole head best unsure unsure_best = record {
@@ -181,17 +181,17 @@ module _ {A : Type 0} (fold : Bool) where
     fixed = λ text s. absurd (none text s);
   }
 
-  pub extends_begin : (rest whole : Known A) → whole.head.items ≡ rest.head.items
+  pub extends_begin : (rest whole : MatchFacts A) → whole.head.items ≡ rest.head.items
       → whole.best.items ≡ rest.best.items → whole.is_sure ≡ false → whole.is_best_sure ≡ false
       → Extends fold Begin rest whole
   extends_begin = anchored Begin (λ line i j m. m.1) (begin_unspelled fold)
 
-  pub extends_end : (rest whole : Known A) → whole.head.items ≡ rest.head.items
+  pub extends_end : (rest whole : MatchFacts A) → whole.head.items ≡ rest.head.items
       → whole.best.items ≡ rest.best.items → whole.is_sure ≡ false → whole.is_best_sure ≡ false
       → Extends fold End rest whole
   extends_end = anchored End (λ line i j m. m.1) (end_unspelled fold)
 
-  module _ (optional : Bool) (rest whole : Known A) (hides : Hides optional rest whole) where
+  module _ (optional : Bool) (rest whole : MatchFacts A) (hides : Hides optional rest whole) where
     -- where the rows stand further right, what hides them stands
     hidden_rows : (line : List ℕ) (i j : ℕ) → i ≤ j → HasRows rest line j → HasRows whole line i
     hidden_rows line i j forward has = record {
@@ -236,20 +236,20 @@ module _ {A : Type 0} (fold : Bool) where
     }
 
   -- one of two patterns
-  pub extends_alt : (p q : Pattern) (optional : Bool) (rest whole : Known A) → Hides optional rest whole
+  pub extends_alt : (p q : Pattern) (optional : Bool) (rest whole : MatchFacts A) → Hides optional rest whole
       → (IsTrue optional → MatchesEmpty (Alt p q)) → Extends fold (Alt p q) rest whole
   extends_alt p q optional rest whole hides empty =
       extends_hidden optional rest whole hides (Alt p q) empty (alt_unspelled fold p q)
 
   -- rounds of which there may be none
-  pub extends_rep : (p : Pattern) (least : ℕ) (most : Option ℕ) (rest whole : Known A) → least ≡ 0
+  pub extends_rep : (p : Pattern) (least : ℕ) (most : Option ℕ) (rest whole : MatchFacts A) → least ≡ 0
       → Hides true rest whole → Extends fold (Rep p least most) rest whole
   unfolding Shape
   extends_rep p least most rest whole none hides =
       extends_hidden true rest whole hides (Rep p least most) (λ is. no_rounds p least most none) (λ text s. shape s)
 
   -- two patterns
-  pub extends_cat : (p q : Pattern) (rest more whole : Known A) → Extends fold q rest more
+  pub extends_cat : (p q : Pattern) (rest more whole : MatchFacts A) → Extends fold q rest more
       → Extends fold p more whole → Extends fold (Cat p q) rest whole
   unfolding Shape
   extends_cat p q rest more whole second first = record {
@@ -272,7 +272,7 @@ module _ {A : Type 0} (fold : Bool) where
   }
 
   -- rounds that lead to the rows of the rest begin at those of the whole
-  repeats_rows : (p : Pattern) (count : ℕ) (rest whole : Known A) → Repeats fold p count rest whole
+  repeats_rows : (p : Pattern) (count : ℕ) (rest whole : MatchFacts A) → Repeats fold p count rest whole
       → (line : List ℕ) (i j : ℕ) → Chain (Match p line) count i j → HasRows rest line j → HasRows whole line i
   repeats_rows p zero rest whole is line i j c has =
       subst (λ k. HasRows k line i) (sym is) (subst (HasRows rest line) (sym c) has)
@@ -280,7 +280,7 @@ module _ {A : Type 0} (fold : Bool) where
       more.2.rows line i c.0 c.1 (repeats_rows p n rest more.0 more.1 line c.0 j c.2 has)
 
   -- they are as long as what they add to the head
-  repeats_long : (p : Pattern) (count : ℕ) (rest whole : Known A) → Repeats fold p count rest whole
+  repeats_long : (p : Pattern) (count : ℕ) (rest whole : MatchFacts A) → Repeats fold p count rest whole
       → (line : List ℕ) (i j : ℕ) → Chain (Match p line) count i j
       → i + length whole.head.items ≤ j + length rest.head.items
   repeats_long p zero rest whole is line i j c = omega (arith, c, ap (λ k. length k.head.items) is)
@@ -288,7 +288,7 @@ module _ {A : Type 0} (fold : Bool) where
       omega (arith, more.2.long line i c.0 c.1, repeats_long p n rest more.0 more.1 line c.0 j c.2)
 
   -- where a sure row of the whole stands, they lead to a sure row of the rest
-  repeats_sure : (p : Pattern) (count : ℕ) (rest whole : Known A) → Repeats fold p count rest whole
+  repeats_sure : (p : Pattern) (count : ℕ) (rest whole : MatchFacts A) → Repeats fold p count rest whole
       → (line : List ℕ) (i : ℕ) → IsSureAt whole line i
       → (j : ℕ) × Chain (Match p line) count i j × IsSureAt rest line j
   repeats_sure p zero rest whole is line i o = (i, refl, subst (λ k. IsSureAt k line i) is o)
@@ -298,7 +298,7 @@ module _ {A : Type 0} (fold : Bool) where
       (others.0, (one.0, one.1, others.1), others.2)
 
   -- so many rounds and no others
-  extends_exactly : (p : Pattern) (count : ℕ) (rest whole : Known A) → Repeats fold p count rest whole
+  extends_exactly : (p : Pattern) (count : ℕ) (rest whole : MatchFacts A) → Repeats fold p count rest whole
       → Extends fold (Rep p count (Some count)) rest whole
   unfolding Shape
   extends_exactly p count rest whole all = record {
@@ -317,7 +317,7 @@ module _ {A : Type 0} (fold : Bool) where
           subst (λ n. Chain (Match p line) n i j) same c
 
   -- so many rounds or more, of which the others hide what stands behind the first ones
-  extends_more : (p : Pattern) (count least : ℕ) (most : Option ℕ) (optional : Bool) (rest hidden whole : Known A)
+  extends_more : (p : Pattern) (count least : ℕ) (most : Option ℕ) (optional : Bool) (rest hidden whole : MatchFacts A)
       → count ≤ least → (IsTrue optional → (least ≡ count) × IfSome most (λ most. count ≤ most))
       → Hides optional rest hidden → Repeats fold p count hidden whole → Extends fold (Rep p least most) rest whole
   unfolding Shape
@@ -339,7 +339,7 @@ module _ {A : Type 0} (fold : Bool) where
   }
 
   -- a repetition of which some first rounds are known
-  pub extends_rounds : (p : Pattern) (n rounds least : ℕ) (most : Option ℕ) (rest hidden behind whole : Known A)
+  pub extends_rounds : (p : Pattern) (n rounds least : ℕ) (most : Option ℕ) (rest hidden behind whole : MatchFacts A)
       → rounds ≡ suc n → rounds ≤ least → HidesOthers rounds least most rest hidden
       → Repeats fold p n hidden behind → Extends fold p behind whole → Extends fold (Rep p least most) rest whole
   extends_rounds p n rounds least most rest hidden behind whole size some (inl single) others first =

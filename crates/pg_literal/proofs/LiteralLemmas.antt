@@ -26,10 +26,10 @@ use Rattle.pg_bytes.specs.Sets.{Bytes}
 use Rattle.pg_literal.specs.Literals.{as_searched, Holds, IsEnough, AreEnough, AreHeads, AreTexts}
 use Rattle.pg_literal.specs.Rows.{StandsAt, items_of, row_of, AreProduct, Multiplies}
 use Rattle.pg_bytes.specs.declared.byte_set.ByteSet.{ByteSet}
-use Rattle.pg_literal.specs.declared.known.Chosen.{Chosen}
+use Rattle.pg_literal.specs.declared.known.ChosenPart.{ChosenPart}
 use Rattle.pg_literal.specs.Known.{IsChosen, head_of, best_of, sets_of, IsNothing, HasRows, IsSureAt, Extends}
 use Rattle.pg_literal.specs.Added.{Adds, AddsOnly}
-use Rattle.pg_literal.specs.declared.known.Known.{Known}
+use Rattle.pg_literal.specs.declared.known.MatchFacts.{MatchFacts}
 use Rattle.pg_literal.specs.declared.literal.Literal.{Literal}
 use Rattle.pg_literal.proofs.KnownLemmas.{match_forward, alt_unspelled}
 use Rattle.pg_literal.proofs.RowLemmas.{stands_within, stands_append, any-map, any-unmap, product_some, fixed_text}
@@ -181,7 +181,7 @@ module _ {A : Type 0} (fold : Bool) (bounds : Bounds) (p q : Pattern) where
 
 -- A part of one of the rows that are known, with two flags. It may be enough only where it is all of a row that is
 -- sure, and any match counts; it may be a head only where the head begins with it.
-pub record Serves {A : Type 0} (bounds : Bounds) (known : Known A) (row : List Bytes) (is_enough is_head : Bool)
+pub record Serves {A : Type 0} (bounds : Bounds) (known : MatchFacts A) (row : List Bytes) (is_enough is_head : Bool)
     : Type 0 where
   pub before : List Bytes
   pub behind : List Bytes
@@ -194,7 +194,8 @@ pub record Serves {A : Type 0} (bounds : Bounds) (known : Known A) (row : List B
 row_append : (xs ys : List ByteSet) → row_of (xs ++ ys) ≡ row_of ys ++ row_of xs
 row_append xs ys = ap reverse (map-append bytes xs ys) ∙ reverse-append (map bytes xs) (map bytes ys)
 
-module _ {A : Type 0} (bounds : Bounds) (known : Known A) (chosen : Chosen A) (is : IsChosen bounds known chosen) where
+module _ {A : Type 0} (bounds : Bounds) (known : MatchFacts A) (chosen : ChosenPart A)
+    (is : IsChosen bounds known chosen) where
   abbrev start : ℕ
   start = chosen.window.start
 
@@ -259,7 +260,7 @@ module _ {A : Type 0} (bounds : Bounds) (known : Known A) (chosen : Chosen A) (i
   }
 
 -- a row that is sure stands within the line
-place_within : {A : Type 0} (known : Known A) (line : List ℕ) (i : ℕ) → IsSureAt known line i → i ≤ length line
+place_within : {A : Type 0} (known : MatchFacts A) (line : List ℕ) (i : ℕ) → IsSureAt known line i → i ≤ length line
 place_within known line i (inl head) = stands_within line (head_of known) i head.1
 place_within known line i (inr best) = stands_within line (best_of known) i best.1
 
@@ -271,7 +272,7 @@ part_stands line row before part behind i is o =
     let right = (stands_append line before (part ++ behind) i whole).1 in
     (stands_append line part behind (i + length before) right).0
 
-module _ {A : Type 0} (fold : Bool) (p : Pattern) (nothing known : Known A)
+module _ {A : Type 0} (fold : Bool) (p : Pattern) (nothing known : MatchFacts A)
     (empty : IsNothing nothing) (extends : Extends fold p nothing known) where
   -- a match has the rows
   match_rows : (line : List ℕ) (i j : ℕ) → j ≤ length line → Match p line i j → HasRows known line i

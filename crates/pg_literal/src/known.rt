@@ -20,7 +20,7 @@ const ROUNDS: u8 = 32;
 ///
 /// Both rows lie backwards: trees are read from right to left, so that each set found is pushed.
 #[derive(Drop)]
-pub(crate) struct Known<A: Allocator> {
+pub(crate) struct MatchFacts<A: Allocator> {
     /// Each match begins with a byte of each of these sets, one behind the other.
     pub head: Vec<ByteSet, A>,
     /// Bytes of these sets stand so in each match: the row with the best part found further right.
@@ -35,7 +35,7 @@ pub(crate) struct Known<A: Allocator> {
 
 /// A part of a row, to be multiplied out into texts.
 #[derive(Drop)]
-pub(crate) struct Chosen<A: Allocator> {
+pub(crate) struct ChosenPart<A: Allocator> {
     /// The whole row, backwards.
     pub row: Vec<ByteSet, A>,
     pub window: Window,
@@ -45,12 +45,12 @@ pub(crate) struct Chosen<A: Allocator> {
     pub is_head: bool,
 }
 
-impl<A: Allocator + Copy> Known<A> {
+impl<A: Allocator + Copy> MatchFacts<A> {
     /// What is known of no tree, which matches the empty string everywhere.
-    pub fn nothing(alloc: A) -> Known<A>
+    pub fn nothing(alloc: A) -> MatchFacts<A>
         ensures { IsNothing result }
     {
-        Known {
+        MatchFacts {
             head: Vec::new(alloc),
             best: Vec::new(alloc),
             best_worth: Worth::nothing(),
@@ -60,7 +60,7 @@ impl<A: Allocator + Copy> Known<A> {
     }
 
     /// With a byte of a set in front.
-    fn with_set(mut self, set: &ByteSet) -> Result<Known<A>, AllocError>
+    fn with_set(mut self, set: &ByteSet) -> Result<MatchFacts<A>, AllocError>
         ensures { (fold : Bool) → IfOk result (Extends fold (Set (bytes set.now)) self) }
     {
         self.head.push(*set)?;
@@ -69,7 +69,7 @@ impl<A: Allocator + Copy> Known<A> {
     }
 
     /// With an anchor in front. Both rows also stand where none holds.
-    fn with_anchor(mut self) -> Known<A>
+    fn with_anchor(mut self) -> MatchFacts<A>
         ensures begin { (fold : Bool) → Extends fold Begin self result }
         ensures end { (fold : Bool) → Extends fold End self result }
     {
@@ -80,13 +80,13 @@ impl<A: Allocator + Copy> Known<A> {
 
     /// With something in front of which nothing is known, unless that it is optional: it matches the empty string
     /// everywhere.
-    fn hidden(self, alloc: A, expansion: Expansion, is_optional: bool) -> Known<A>
+    fn hidden(self, alloc: A, expansion: Expansion, is_optional: bool) -> MatchFacts<A>
         ensures { Hides is_optional self result }
     {
         let is_sure = is_optional && self.is_sure && self.head.is_empty();
         let worth = widest(&self.head, expansion).worth;
         if worth.is_below(self.best_worth) {
-            Known {
+            MatchFacts {
                 head: Vec::new(alloc),
                 best: self.best,
                 best_worth: self.best_worth,
@@ -94,7 +94,7 @@ impl<A: Allocator + Copy> Known<A> {
                 is_best_sure: is_optional && self.is_best_sure,
             }
         } else {
-            Known {
+            MatchFacts {
                 head: Vec::new(alloc),
                 best: self.head,
                 best_worth: worth,
@@ -112,7 +112,7 @@ impl<A: Allocator + Copy> Known<A> {
         rounds: u8,
         least: u8,
         most: Option<u8>,
-    ) -> Known<A>
+    ) -> MatchFacts<A>
         ensures { HidesOthers rounds least most self result }
     {
         if least == rounds && most == Some(rounds) {
@@ -123,7 +123,7 @@ impl<A: Allocator + Copy> Known<A> {
     }
 
     /// With so many bytes of a set in front.
-    fn with_sets(self, set: &ByteSet, count: u8) -> Result<Known<A>, AllocError>
+    fn with_sets(self, set: &ByteSet, count: u8) -> Result<MatchFacts<A>, AllocError>
         ensures { (fold : Bool) → IfOk result (Repeats fold (Set (bytes set.now)) count self) }
     {
         let mut known = self;
@@ -150,7 +150,7 @@ impl<A: Allocator + Copy> Known<A> {
     }
 
     /// The part of a row that serves best: a whole row that is sure, else the better one of the best parts of both.
-    pub fn chosen(self, bounds: Bounds, expansion: Expansion) -> Chosen<A>
+    pub fn chosen(self, bounds: Bounds, expansion: Expansion) -> ChosenPart<A>
         ensures { IsChosen bounds self result }
     {
         let is_any = bounds == Bounds::Any;
@@ -158,28 +158,28 @@ impl<A: Allocator + Copy> Known<A> {
         let best = widest_or_whole(&self.best, expansion, is_any && self.is_best_sure);
         let is_head = head.start < head.stop && head.stop == self.head.len();
         if is_any && self.is_sure && head.len() == self.head.len() {
-            Chosen {
+            ChosenPart {
                 row: self.head,
                 window: head,
                 is_enough: true,
                 is_head,
             }
         } else if is_any && self.is_best_sure && best.len() == self.best.len() {
-            Chosen {
+            ChosenPart {
                 row: self.best,
                 window: best,
                 is_enough: true,
                 is_head: false,
             }
         } else if !head.worth.is_below(best.worth) {
-            Chosen {
+            ChosenPart {
                 row: self.head,
                 window: head,
                 is_enough: false,
                 is_head,
             }
         } else {
-            Chosen {
+            ChosenPart {
                 row: self.best,
                 window: best,
                 is_enough: false,
@@ -207,8 +207,8 @@ fn with_later_rounds<A: Allocator + Copy>(
     least: u8,
     most: Option<u8>,
     expansion: Expansion,
-    known: Known<A>,
-) -> Result<Known<A>, AllocError>
+    known: MatchFacts<A>,
+) -> Result<MatchFacts<A>, AllocError>
     requires { 1 ≤ least }
     ensures { (fold : Bool) → IfOk result (LacksFirst fold (pattern inner.now) least most known) }
 {
@@ -258,8 +258,8 @@ pub(crate) fn with_tree<A: Allocator + Copy>(
     alloc: A,
     tree: &Tree<A>,
     expansion: Expansion,
-    mut known: Known<A>,
-) -> Result<Known<A>, AllocError>
+    mut known: MatchFacts<A>,
+) -> Result<MatchFacts<A>, AllocError>
     ensures { (fold : Bool) → IfOk result (Extends fold (pattern tree.now) known) }
 {
     let mut tree = tree;

@@ -12,7 +12,7 @@ ghost use Rattle.pg_literal.specs.Added.{Adds, AddsOnly};
 
 use crate::cost::{FEW, finding_cost, passing_cost};
 use crate::inner::inner_of;
-use crate::known::{Known, with_tree};
+use crate::known::{MatchFacts, with_tree};
 use crate::row::{Expansion, WIDE, texts_of};
 use pg_bytes::ByteSet;
 use pg_pattern::{Bounds, Tree};
@@ -237,7 +237,7 @@ fn push_tree<A: Allocator + Copy>(
     ensures fixed { (text : List ℕ) → Spells Fixed expansion.fold text (pattern tree.now) → bounds ≡ Any
         → IfOk result IsTrue }
 {
-    let known = with_tree(alloc, tree, expansion, Known::nothing(alloc))?;
+    let known = with_tree(alloc, tree, expansion, MatchFacts::nothing(alloc))?;
     if let Some(text) = known.only_text(alloc, expansion.fold)? {
         let found = push_text(text, bounds, literals)?;
         return Ok(found);

@@ -167,19 +167,9 @@ fn has_terminator(set: &ByteSet, count: usize) -> bool {
     count > 1 && (set.contains(b'\n') || set.contains(0))
 }
 
-/// The only byte of a set, if it has but one.
-fn single_byte(set: &ByteSet) -> Option<u8> {
-    let byte = first_byte(set)?;
-    if *set == set_of(byte, false) {
-        Some(byte)
-    } else {
-        None
-    }
-}
-
 /// The weight of a set. One without a byte that is searched for counts as if it had one.
 fn weight_of(set: &ByteSet, fold: bool) -> Weight {
-    if let Some(byte) = single_byte(set) {
+    if let Some(byte) = only_byte(set, false) {
         let is_searched = as_searched(byte, fold) == byte;
         return Weight {
             count: 1,

@@ -7,7 +7,7 @@ use Rattle.std.proofs.lemmas.List.{get_or_read}
 use Rattle.std.proofs.lemmas.Option.{slice_get-get_or}
 use Rattle.std.proofs.lemmas.Bool.{cases_eq, cases_lt}
 use Rattle.pg_match.specs.Anchored.{GoesAlone, ToldAlone, IsAnchoredMemoryOf, start_row}
-use Rattle.pg_match.specs.Anchored.{NothingBefore, TellsBegun, begun_of}
+use Rattle.pg_match.specs.Anchored.{NothingBefore, TellsKnownSpan, known_span_of}
 use Rattle.pg_match.specs.Automata.{Nfa, Edge, Runs, IsRunnable}
 use Rattle.pg_pattern.specs.Bounds.{MayBegin, MayEnd}
 use Rattle.pg_match.specs.Memories.{Remembered, ended, fresh_at, In, Same, IsShape, IsBlank, Keeps}
@@ -308,7 +308,7 @@ module _ (m : Nfa) (t : Remembered) (is : IsAnchoredMemoryOf m t) where
     -- the same, or none begins at s where no end was found
     begun_end : (p : ℕ) (last : Option ℕ) → MayBegin m.bounds l s → IsLastEnd m l s p last → p ≤ length l
         → ((n j : ℕ) → p < j → j ≤ length l → Runs m.states l n m.start s j → ⊥)
-        → (p ≡ length l → (n : ℕ) → Runs m.states l n m.start s p → ⊥) → TellsBegun m l s (begun_of last p)
+        → (p ≡ length l → (n : ℕ) → Runs m.states l n m.start s p → ⊥) → TellsKnownSpan m l s (known_span_of last p)
     begun_end p None begins f within none not_last = λ i j ge lt less inside run.
         let same : i ≡ s = omega arith in
         let here = subst (λ w. Runs m.states l run.2.0 m.start w j) same run.2.1 in
@@ -325,7 +325,7 @@ module _ (m : Nfa) (t : Remembered) (is : IsAnchoredMemoryOf m t) where
 
     pub begun_dead : (p at v : ℕ) (last : Option ℕ) → Follows m t l s p at last → MayBegin m.bounds l s
         → get_or l p 0 < 256 → p < length l → v ≡ get_or t.steps (at + get_or l p 0) v → v ≡ 2
-        → TellsBegun m l s (begun_of last p)
+        → TellsKnownSpan m l s (known_span_of last p)
     begun_dead p at v last f begins byte lt read two =
         let b = get_or l p 0 in
         let cell = get_or_read t.steps _ v (in_steps at b f.row byte) read 0 in
@@ -338,7 +338,8 @@ module _ (m : Nfa) (t : Remembered) (is : IsAnchoredMemoryOf m t) where
         (λ e. absurd (omega arith))
 
     pub begun_no_more : (at p : ℕ) (last : Option ℕ) → Follows m t l s p at last → MayBegin m.bounds l s
-        → p ≡ length l → s < length l → NoHitAtEnd m false (In t (at / 256)) → TellsBegun m l s (begun_of last p)
+        → p ≡ length l → s < length l → NoHitAtEnd m false (In t (at / 256))
+        → TellsKnownSpan m l s (known_span_of last p)
     begun_no_more at p last f begins end inside missed =
         begun_end p last begins f.found f.within (λ n j past upto run. absurd (omega arith))
         (λ e n run.

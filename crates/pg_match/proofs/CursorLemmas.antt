@@ -8,8 +8,8 @@ use Rattle.pg_match.specs.Closures.{Leads, AreSeeds}
 use Rattle.pg_match.specs.Memories.{Remembered, IsMemoryOf, IsCursor, Crosses}
 use Rattle.pg_match.specs.Stands.{HasRun, NoneBefore}
 use Rattle.pg_match.specs.Starts.{StandsUnseeded}
-use Rattle.pg_match.specs.declared.dfa_cursor.Crossed.{Crossed}
-use Rattle.pg_match.specs.declared.dfa_cursor.Crossed.TheVariants.{Found, At}
+use Rattle.pg_match.specs.declared.dfa_cursor.Crossing.{Crossing}
+use Rattle.pg_match.specs.declared.dfa_cursor.Crossing.TheVariants.{Found, At}
 use Rattle.pg_match.specs.declared.dfa_cursor.Cursor.{Cursor}
 use Rattle.pg_match.proofs.ScanLemmas.{scan_later}
 
@@ -93,7 +93,7 @@ cursor_back m mem l p is some within =
     record { within = s.within; near = s.near; row = s.row; stands = s.stands }
 
 -- the same found from an earlier place on, where no hit begins between the two
-pub crosses_from : (m : Nfa) (mem : Remembered) (l : List ℕ) (c d : Cursor) (r : Crossed) → d.place ≡ c.place
+pub crosses_from : (m : Nfa) (mem : Remembered) (l : List ℕ) (c d : Cursor) (r : Crossing) → d.place ≡ c.place
     → HasRun m l c.from ↔ HasRun m l d.from
     → Crosses m mem l d r → Crosses m mem l c r
 crosses_from m mem l c d (Found answer) e same h = (λ t. same.1 (h.0 t), λ run. h.1 (same.0 run))

@@ -7,8 +7,8 @@ use Rattle.pg_pattern.specs.Bounds.{MayBegin, MayEnd}
 use Rattle.pg_match.specs.Memories.{Remembered, In, IsShape, IsUnknown, fresh_at, ended}
 use Rattle.pg_match.specs.Steps.{Reads, LeadsStill, IsStill, Starts, ReadsNone, AnswersEnd}
 use Rattle.pg_match.specs.Searches.{IsBest, RunsFrom}
-use Rattle.pg_match.specs.declared.dfa_anchored.Begun.{Begun}
-use Rattle.pg_match.specs.declared.dfa_anchored.Begun.TheVariants.{Longest, Nothing, Unknown}
+use Rattle.pg_match.specs.declared.dfa_anchored.KnownSpan.{KnownSpan}
+use Rattle.pg_match.specs.declared.dfa_anchored.KnownSpan.TheVariants.{Longest, Nothing, Unknown}
 use Rattle.pg_match.specs.declared.state.State.{State}
 
 -- from S alone, with no start behind the byte, the byte leads to U, but for what needs the line's end
@@ -49,13 +49,13 @@ NothingBefore m l from place =
 
 -- what is told of the spans with a byte that begin at a place: where the longest one ends, or that there is none, or
 -- nothing
-abbrev pub TellsBegun : Nfa → List ℕ → ℕ → Begun → Type 0
-TellsBegun m l s (Longest e) =
+abbrev pub TellsKnownSpan : Nfa → List ℕ → ℕ → KnownSpan → Type 0
+TellsKnownSpan m l s (Longest e) =
     IsBest m.states l m.start (MayBegin m.bounds l) (MayEnd m.bounds l) s (length l + 1) (Some (s, e))
-TellsBegun m l s (Nothing known) = NothingBefore m l s (s + 1)
-TellsBegun m l s Unknown = Unit {0}
+TellsKnownSpan m l s (Nothing known) = NothingBefore m l s (s + 1)
+TellsKnownSpan m l s Unknown = Unit {0}
 
 -- the last place where a span was found to end, or that none was, as is known at a place
-abbrev pub begun_of : Option ℕ → ℕ → Begun
-begun_of None place = Nothing place
-begun_of (Some e) place = Longest e
+abbrev pub known_span_of : Option ℕ → ℕ → KnownSpan
+known_span_of None place = Nothing place
+known_span_of (Some e) place = Longest e

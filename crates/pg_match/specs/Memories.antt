@@ -5,8 +5,8 @@ use Rattle.pg_match.specs.Automata.{Nfa}
 use Rattle.pg_match.specs.StateSets.{Members}
 use Rattle.pg_match.specs.Steps.{Has, Starts, Goes, HitBefore, AnswersEnd, ReadsNone}
 use Rattle.pg_match.specs.Stands.{Stands, HasRun, NoneBefore}
-use Rattle.pg_match.specs.declared.dfa_cursor.Crossed.{Crossed}
-use Rattle.pg_match.specs.declared.dfa_cursor.Crossed.TheVariants.{Found, At}
+use Rattle.pg_match.specs.declared.dfa_cursor.Crossing.{Crossing}
+use Rattle.pg_match.specs.declared.dfa_cursor.Crossing.TheVariants.{Found, At}
 use Rattle.pg_match.specs.declared.dfa_cursor.Cursor.{Cursor}
 use Rattle.pg_match.specs.declared.dfa_search.Next.{Next}
 use Rattle.pg_match.specs.declared.dfa_search.Next.TheVariants.{Hit, Row, Lost, Dead}
@@ -175,12 +175,12 @@ pub record IsCursor (m : Nfa) (t : Remembered) (l : List ℕ) (c : Cursor) : Typ
 
 -- What is found at a step that stopped a walk: whether there is a hit from the cursor's `from` on, or a cursor further
 -- on, where there is one if and only if there is one from its own `from` on.
-abbrev pub Crosses : Nfa → Remembered → List ℕ → Cursor → Crossed → Type 0
+abbrev pub Crosses : Nfa → Remembered → List ℕ → Cursor → Crossing → Type 0
 Crosses m t l c (Found answer) = IsTrue answer ↔ HasRun m l c.from
 Crosses m t l c (At next) =
     (c.place < next.place) × IsCursor m t l next × (HasRun m l c.from ↔ HasRun m l next.from)
 
 -- the place that was come to, in a line of n bytes
-abbrev pub reached : ℕ → Crossed → ℕ
+abbrev pub reached : ℕ → Crossing → ℕ
 reached n (Found answer) = n
 reached n (At next) = next.place

@@ -1,6 +1,6 @@
 //! The longest match from a known start, by the remembered sets of the runs that begin there.
 ghost use Rattle.std.specs.Prelude.{◌≡◌, ◌+◌, ◌*◌, ◌<◌, ◌≤◌, ◌^◌, length, IfSome, IsTrue, Some};
-ghost use Rattle.pg_match.specs.Anchored.{IsAnchoredMemoryOf, start_row, NothingBefore, TellsBegun, begun_of};
+ghost use Rattle.pg_match.specs.Anchored.{IsAnchoredMemoryOf, start_row, NothingBefore, TellsKnownSpan, known_span_of};
 ghost use Rattle.pg_pattern.specs.Bounds.{MayBegin, MayEnd};
 ghost use Rattle.pg_match.specs.Memories.{In, Keeps, Same};
 ghost use Rattle.pg_match.specs.Searches.{IsBest};
@@ -26,7 +26,7 @@ const PLACES: usize = 32;
 
 /// What remembered sets tell of the spans that begin at a place and have a byte.
 #[derive(Clone, Copy)]
-pub(crate) enum Begun {
+pub(crate) enum KnownSpan {
     /// The longest one ends here.
     Longest(usize),
     /// There is none, as was found out at this place.
@@ -43,29 +43,29 @@ fn start_row(start: usize) -> usize
 }
 
 /// The end of the last span that was found, or that none was, as is known at a place.
-fn outcome_at(last: Option<usize>, place: usize) -> Begun
-    ensures { result ≡ begun_of last place }
+fn outcome_at(last: Option<usize>, place: usize) -> KnownSpan
+    ensures { result ≡ known_span_of last place }
 {
     match last {
-        Some(end) => Begun::Longest(end),
-        None => Begun::Nothing(place),
+        Some(end) => KnownSpan::Longest(end),
+        None => KnownSpan::Nothing(place),
     }
 }
 
 impl<A: Allocator> Automaton<A> {
     /// What is remembered of the spans that begin at a place.
-    pub(crate) fn longest(&self, memory: &Cache<A>, line: &[u8], start: usize) -> Begun
+    pub(crate) fn longest(&self, memory: &Cache<A>, line: &[u8], start: usize) -> KnownSpan
         requires built { IsBuilt self.now }
         requires memory { IsAnchoredMemoryOf (nfa self.now) (remembered memory.now) }
         requires start_in { start ≤ length line.now }
-        ensures { TellsBegun (nfa self.now) line.now start result }
+        ensures { TellsKnownSpan (nfa self.now) line.now start result }
     {
         let row = start_row(start);
         if start >= line.len() || row > memory.count {
-            return Begun::Unknown;
+            return KnownSpan::Unknown;
         }
         if !self.bounds.may_begin(line, start) {
-            return Begun::Nothing(start);
+            return KnownSpan::Nothing(start);
         }
         let mut state = 256 * row as u32;
         let mut place = start;
@@ -76,7 +76,7 @@ impl<A: Allocator> Automaton<A> {
                 return if next == DEAD {
                     outcome_at(last, place)
                 } else {
-                    Begun::Unknown
+                    KnownSpan::Unknown
                 };
             }
             state = next;
@@ -87,11 +87,11 @@ impl<A: Allocator> Automaton<A> {
         }
         match memory.ends[(state / 256) as usize] {
             Some(is_end) => if is_end {
-                Begun::Longest(place)
+                KnownSpan::Longest(place)
             } else {
                 outcome_at(last, place)
             },
-            None => Begun::Unknown,
+            None => KnownSpan::Unknown,
         }
     }
 
@@ -112,9 +112,9 @@ impl<A: Allocator> Automaton<A> {
         let mut left = TRIES;
         while place < line.len() {
             match self.longest(memory, line, place) {
-                Begun::Longest(end) => return (place, Some(end)),
-                Begun::Unknown => return (place, None),
-                Begun::Nothing(known) => {
+                KnownSpan::Longest(end) => return (place, Some(end)),
+                KnownSpan::Unknown => return (place, None),
+                KnownSpan::Nothing(known) => {
                     let steps = known.saturating_sub(place);
                     if steps > left {
                         return (place, None);

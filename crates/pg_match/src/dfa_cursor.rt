@@ -26,7 +26,7 @@ pub(crate) struct Cursor {
 
 /// What is found at a step that stopped a walk.
 #[derive(Clone, Copy)]
-pub(crate) enum Crossed {
+pub(crate) enum Crossing {
     /// Whether there is a hit.
     Found(bool),
     /// The walk goes on further on.
@@ -44,7 +44,7 @@ impl<A: Allocator> Automaton<A> {
         line: &[u8],
         place: usize,
         cursor: Cursor,
-    ) -> Crossed
+    ) -> Crossing
         requires built { IsBuilt self.now }
         requires room { HaveRoom (buffers sets.old) (length self.now.states.items) }
         requires memory { IsMemoryOf (nfa self.now) (remembered memory.old) }
@@ -64,8 +64,8 @@ impl<A: Allocator> Automaton<A> {
         let (answer, here) = self.search_on(sets, line, place, cursor.place);
         memory.lose(here - place);
         match answer {
-            Some(answer) => Crossed::Found(answer),
-            None => Crossed::At(Cursor {
+            Some(answer) => Crossing::Found(answer),
+            None => Crossing::At(Cursor {
                 from: here,
                 place: here - 1,
                 state: 0,
@@ -82,7 +82,7 @@ impl<A: Allocator> Automaton<A> {
         memory: &mut Cache<A>,
         line: &[u8],
         cursor: Cursor,
-    ) -> Crossed
+    ) -> Crossing
         requires built { IsBuilt self.now }
         requires room { HaveRoom (buffers sets.old) (length self.now.states.items) }
         requires memory { IsMemoryOf (nfa self.now) (remembered memory.old) }
@@ -96,7 +96,7 @@ impl<A: Allocator> Automaton<A> {
         ensures told { Tells sets.old sets.new }
     {
         let start = match self.scan(memory, line, cursor.from) {
-            Scan::NoHit => return Crossed::Found(false),
+            Scan::NoHit => return Crossing::Found(false),
             Scan::Known(start) | Scan::Unknown(start) => start,
         };
         if start > 0 && sets.visits <= start as u128 * self.states.len() as u128 {
@@ -111,7 +111,7 @@ impl<A: Allocator> Automaton<A> {
         memory.load((cursor.state / 256) as usize, &mut sets.current);
         let byte = line[cursor.place];
         if self.hits_before(&sets.current, byte) {
-            return Crossed::Found(true);
+            return Crossing::Found(true);
         }
         self.go_on(sets, byte, false);
         self.go_without(sets, memory, line, cursor.place + 1, cursor)
@@ -124,7 +124,7 @@ impl<A: Allocator> Automaton<A> {
         memory: &mut Cache<A>,
         line: &[u8],
         cursor: Cursor,
-    ) -> Crossed
+    ) -> Crossing
         requires built { IsBuilt self.now }
         requires room { HaveRoom (buffers sets.old) (length self.now.states.items) }
         requires memory { IsMemoryOf (nfa self.now) (remembered memory.old) }
@@ -145,9 +145,9 @@ impl<A: Allocator> Automaton<A> {
             return self.leave(sets, memory, line, cursor);
         }
         match self.learn(sets, memory, (cursor.state / 256) as usize, byte) {
-            Next::Hit => Crossed::Found(true),
-            Next::Dead => Crossed::Found(false),
-            Next::Row(state) => Crossed::At(Cursor {
+            Next::Hit => Crossing::Found(true),
+            Next::Dead => Crossing::Found(false),
+            Next::Row(state) => Crossing::At(Cursor {
                 from: cursor.from,
                 place: cursor.place + 1,
                 state,

@@ -13,7 +13,7 @@ ghost use Rattle.pg_match.specs.Views.{nfa, members, buffers, remembered, added,
 
 use crate::automaton::Automaton;
 use crate::dfa_cache::{Cache, DEAD, HIT, LOST};
-use crate::dfa_cursor::{Crossed, Cursor};
+use crate::dfa_cursor::{Crossing, Cursor};
 use crate::search::StateSets;
 use crate::sparse_set::StateSet;
 use crate::state::State;
@@ -311,8 +311,8 @@ impl<A: Allocator> Automaton<A> {
             }
             let from = cursor.from;
             match self.cross(sets, memory, line, Cursor { from, place, state }) {
-                Crossed::Found(answer) => return answer,
-                Crossed::At(next) => cursor = next,
+                Crossing::Found(answer) => return answer,
+                Crossing::At(next) => cursor = next,
             }
         }
     }

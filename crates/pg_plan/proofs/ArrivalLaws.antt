@@ -9,7 +9,7 @@ use Rattle.std.proofs.lemmas.List.{get_or_at, length_push}
 use Rattle.std.proofs.lemmas.Slice.Eq.{bytes_eq-Decides}
 use Rattle.pg_selection.specs.Search.{terminator}
 use Rattle.pg_selection.specs.Same.{same_text, text_equal}
-use Rattle.pg_selection.specs.Searched.{Searched}
+use Rattle.pg_selection.specs.Searched.{SearchedBlock}
 use Rattle.pg_blocks.specs.Blocks.{BlockData}
 use Rattle.pg_plan.specs.declared.answers.Arrival.TheVariants.{Taken, Double, Stranger}
 use Rattle.pg_plan.specs.Plan.{Step, Opens, Announces, Ends, Misses, IsShaped, opened, announced, last_blocks}
@@ -96,7 +96,7 @@ found end (Announces c ∷ p) h k b below e = elim (cases_lt k (length (announce
       subst P same (find_last p (announced p) c (all_below end p h.1) h.0.file h.0.number)
 ]
 
-pub first_is_taken : (past : Past) (r : Searched) → IsShaped (terminator past.query) (plan past)
+pub first_is_taken : (past : Past) (r : SearchedBlock) → IsShaped (terminator past.query) (plan past)
     → r.query ≡ past.query.text → Contains (announced (plan past)) r.block
     → is_taken (taken_of past.query past.events) r.block ≡ false → answer past r ≡ Taken
 unfolding answer_after

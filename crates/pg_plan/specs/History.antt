@@ -5,7 +5,7 @@ use Rattle.std.specs.Str.{bytes_eq}
 use Rattle.pg_selection.specs.Search.{Search}
 use Rattle.pg_selection.specs.Same.{same_text}
 use Rattle.pg_blocks.specs.Blocks.{BlockData}
-use Rattle.pg_selection.specs.Searched.{Searched}
+use Rattle.pg_selection.specs.Searched.{SearchedBlock}
 use Rattle.pg_rows.specs.declared.format.Format.{Format}
 use Rattle.pg_plan.specs.declared.answers.Arrival.{Arrival}
 use Rattle.pg_plan.specs.declared.answers.Arrival.TheVariants.{Taken, Double, Stranger}
@@ -15,7 +15,7 @@ use Rattle.pg_plan.specs.Plan.{Step, announced, entries_of, is_open}
 -- an accepted plan call, or an arrival
 pub data Event : Type 0 where
   Planned : (step : Step) → Event
-  Arrived : (result : Searched) → Event
+  Arrived : (result : SearchedBlock) → Event
 
 -- the steps of the plan calls
 abbrev pub plan_of : List Event → List Step
@@ -41,7 +41,7 @@ arrival_at None taken b = Stranger
 arrival_at (Some known) taken b = if is_taken taken b then Double else if_same (bytes_eq b.bytes known.bytes)
 
 -- what the next arrival is
-abbrev pub arrival : Search → List Step → List (ℕ × ℕ) → Searched → Arrival
+abbrev pub arrival : Search → List Step → List (ℕ × ℕ) → SearchedBlock → Arrival
 arrival q plan taken r =
     if same_text q.text r.query
     then arrival_at (find (is_block r.block.file r.block.number) (announced plan)) taken r.block
@@ -86,7 +86,7 @@ abbrev pub planned : Past → Step → Past
 planned past step = record past { events = Planned step ∷ past.events }
 
 -- behind an arrival
-abbrev pub arrived : Past → Searched → Past
+abbrev pub arrived : Past → SearchedBlock → Past
 arrived past result = record past { events = Arrived result ∷ past.events }
 
 -- the plan by now
@@ -94,7 +94,7 @@ abbrev pub plan : Past → List Step
 plan past = plan_of past.events
 
 -- what an arrival is behind these events
-unfoldable pub answer_after : Search → List Event → Searched → Arrival
+unfoldable pub answer_after : Search → List Event → SearchedBlock → Arrival
 answer_after q events r = arrival q (plan_of events) (taken_of q events) r
 
 -- how far the front of the plan has come behind these events
@@ -106,7 +106,7 @@ unfoldable pub handed_after : Search → Format → List Event → List ℕ
 handed_after q format events = output q format (entries_of (front_after q events))
 
 -- the same of a past, whatever was written
-abbrev pub answer : Past → Searched → Arrival
+abbrev pub answer : Past → SearchedBlock → Arrival
 answer past r = answer_after past.query past.events r
 
 abbrev pub front_of : Past → List Step

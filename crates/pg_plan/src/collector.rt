@@ -11,13 +11,13 @@ pub trait Collector<F> {
     ghost use Rattle.pg_plan.specs.History.{Past, arrived, answer, handed};
     ghost use Rattle.pg_plan.specs.Drains.{Drained, IsSafe, drained};
     ghost use Rattle.pg_plan.specs.declared.answers.SinkFault.TheVariants.{Failed, WriteFailed};
-    ghost use Rattle.pg_selection.specs.Searched.{Searched};
+    ghost use Rattle.pg_selection.specs.Searched.{SearchedBlock};
 
     /// It stands after this.
     ghost stands: { Self → Past → Type 0 };
 
     /// A result as plain data.
-    ghost searched: { F → Searched };
+    ghost searched: { F → SearchedBlock };
 
     /// Takes a result, which may be of any query and block.
     fn arrive(&mut self, found: F) -> Arrival

@@ -2,7 +2,7 @@
 ghost use Rattle.std.specs.Prelude.{◌≡◌, List, false};
 ghost use Rattle.std.specs.List.{Contains};
 ghost use Rattle.pg_selection.specs.Search.{terminator};
-ghost use Rattle.pg_selection.specs.Searched.{Searched};
+ghost use Rattle.pg_selection.specs.Searched.{SearchedBlock};
 ghost use Rattle.pg_base.specs.Entries.{Entry};
 ghost use Rattle.pg_base.specs.Sink.{IsBeginning};
 ghost use Rattle.pg_rows.specs.Output.{HasRoom, output};
@@ -20,7 +20,7 @@ pub fn handed_out_begins()
 
 /// The first arrival of an announced block's result under the query is taken. The past's steps are a plan.
 pub fn first_arrival_is_taken()
-    ensures { (past : Past) (found : Searched) → IsPlan (terminator past.query) (plan past) →
+    ensures { (past : Past) (found : SearchedBlock) → IsPlan (terminator past.query) (plan past) →
         found.query ≡ past.query.text → Contains (announced (plan past)) found.block →
         is_taken (taken_of past.query past.events) found.block ≡ false → answer past found ≡ Taken }
 {}

@@ -6,11 +6,11 @@ use Rattle.std.specs.List.{Any}
 use Rattle.std.proofs.lemmas.List.{append-nil}
 use Rattle.pg_base.specs.Entries.{Ending, Ended, Failed, Left}
 use Rattle.pg_blocks.specs.Lines.{lines}
-use Rattle.pg_blocks.specs.Cutter.{fed as fed_after, IsCutterAfter, Fed, HasLongLine}
+use Rattle.pg_blocks.specs.Cutter.{fed as fed_after, IsCutterAfter, CutterPast, HasLongLine}
 use Rattle.pg_blocks.specs.declared.cutter.Cutter.{Cutter}
 use Rattle.pg_blocks.specs.declared.cutter.CutFault.{CutFault}
 use Rattle.pg_blocks.specs.declared.cutter.CutFault.TheVariants.{OutOfMemory, LineTooLong, FileTooLong}
-use Rattle.pg_files.specs.Given.{Given, File, FilesPast, gave_bytes, gave_end, newest_name}
+use Rattle.pg_files.specs.Given.{FileOutcome, File, FilesPast, gave_bytes, gave_end, newest_name}
 use Rattle.pg_reader.specs.Lengths.{IsTooLong}
 use Rattle.pg_reader.specs.Reads.{CutCause, FedMore, FeedsAllOrNone, HasFed, HasReadOn, IsLost, OnlyReadsOn}
 use Rattle.pg_reader.specs.Reads.{ending_after}
@@ -19,23 +19,23 @@ use Rattle.pg_reader.specs.declared.file_reader.ReadOutcome.{ReadOutcome}
 use Rattle.pg_reader.specs.declared.file_reader.ReadOutcome.TheVariants.{More, Refused}
 use Rattle.pg_reader.proofs.GivenLemmas.{as_newest, bytes_before, end_before, too_long_given}
 
-pub stands_by : {A : Type 0} {cutter cutter' : Cutter A} (past : Fed) → cutter' ≡ cutter → IsCutterAfter cutter past
-    → IsCutterAfter cutter' past
+pub stands_by : {A : Type 0} {cutter cutter' : Cutter A} (past : CutterPast) → cutter' ≡ cutter
+    → IsCutterAfter cutter past → IsCutterAfter cutter' past
 stands_by {A = A} past e h = let S : Cutter A → Type 0 = λ c. IsCutterAfter c past in subst S (sym e) h
 
 -- what was fed before stands
 abbrev pub FedStays : {A : Type 0} → (reader reader' : FileReader A) → Type 0
-FedStays reader reader' = (fed : Fed) → IsCutterAfter reader.cutter fed → IsCutterAfter reader'.cutter fed
+FedStays reader reader' = (fed : CutterPast) → IsCutterAfter reader.cutter fed → IsCutterAfter reader'.cutter fed
 
 -- nothing more was fed
-fed_none : {A : Type 0} {cutter : Cutter A} {fed : Fed} → IsCutterAfter cutter fed
+fed_none : {A : Type 0} {cutter : Cutter A} {fed : CutterPast} → IsCutterAfter cutter fed
     → IsCutterAfter cutter (fed_after fed [])
 fed_none {cutter = cutter} {fed = fed} stands =
     let S : List ℕ → Type 0 = λ bytes. IsCutterAfter cutter (record fed { bytes = bytes }) in
     subst S (sym (append-nil fed.bytes)) stands
 
 -- A file is open, and nothing of it was read.
-module _ {A : Type 0} {reader : FileReader A} {fed : Fed} {lost : List ℕ} {given : List Given}
+module _ {A : Type 0} {reader : FileReader A} {fed : CutterPast} {lost : List ℕ} {given : List FileOutcome}
     (h : HasFed reader fed lost given) (reader' : FileReader A) (stands : IsCutterAfter reader'.cutter fed)
     (came : reader'.came ≡ reader.came) where
   pub same_fed : HasFed reader' fed lost given
@@ -63,7 +63,7 @@ module _ {A : Type 0} {reader : FileReader A} {fed : Fed} {lost : List ℕ} {giv
       }
 
 -- A file that may be read further.
-module _ {A : Type 0} {reader : FileReader A} {fed : Fed} {lost : List ℕ} {given : List Given}
+module _ {A : Type 0} {reader : FileReader A} {fed : CutterPast} {lost : List ℕ} {given : List FileOutcome}
     (h : HasFed reader fed lost given) (more : reader.came ≡ More) where
   -- all that it gave was fed
   open_yet : given ≡ File (newest_name given) fed.bytes Left ∷ drop 1 given
@@ -89,7 +89,7 @@ module _ {A : Type 0} {reader : FileReader A} {fed : Fed} {lost : List ℕ} {giv
       is_long piece (inr (omega (arith, file refl, length-append fed.bytes piece)))
 
   -- it stands so now, by what was fed of it and what was lost
-  fed_more : (reader' : FileReader A) (given' : List Given) (piece lost' : List ℕ)
+  fed_more : (reader' : FileReader A) (given' : List FileOutcome) (piece lost' : List ℕ)
       → IsCutterAfter reader'.cutter (fed_after fed piece)
       → given'
       ≡ File (newest_name given) ((fed.bytes ++ piece) ++ lost') (ending_after reader'.came) ∷ drop 1 given
@@ -143,7 +143,7 @@ module _ {A : Type 0} {reader : FileReader A} {fed : Fed} {lost : List ℕ} {giv
       }
 
   -- nothing more came of it
-  no_more : (reader' : FileReader A) (given' : List Given) (ending : Ending) → ending_after reader'.came ≡ ending
+  no_more : (reader' : FileReader A) (given' : List FileOutcome) (ending : Ending) → ending_after reader'.came ≡ ending
       → given' ≡ File (newest_name given) fed.bytes ending ∷ drop 1 given
       → IsLost reader'.came fed.end fed.longest given' [] → IsCutterAfter reader'.cutter fed
       → FedMore reader fed given reader' given'
@@ -171,15 +171,15 @@ module _ {A : Type 0} {reader : FileReader A} {fed : Fed} {lost : List ℕ} {giv
       no_more reader' (gave_end failed given) _ stops (ap (gave_end failed) open_yet) none stands
 
 -- what one read gave and the cutter didn't take is not fed in part
-pub refused_whole : {A : Type 0} {reader reader' : FileReader A} {given given' : List Given} → reader.came ≡ More
+pub refused_whole : {A : Type 0} {reader reader' : FileReader A} {given given' : List FileOutcome} → reader.came ≡ More
     → (piece : List ℕ) (cut : CutFault) → given' ≡ gave_bytes piece given → reader'.came ≡ Refused cut
     → FedStays reader reader'
-    → ((fed : Fed) → IsCutterAfter reader.cutter fed → cut ≡ LineTooLong → HasLongLine (fed_after fed piece))
-    → ((fed : Fed) → IsCutterAfter reader.cutter fed → cut ≡ FileTooLong
+    → ((fed : CutterPast) → IsCutterAfter reader.cutter fed → cut ≡ LineTooLong → HasLongLine (fed_after fed piece))
+    → ((fed : CutterPast) → IsCutterAfter reader.cutter fed → cut ≡ FileTooLong
     → 2 ^ 62 < length fed.bytes + length piece)
     → FeedsAllOrNone reader given reader' given'
 refused_whole {reader' = reader'} more piece cut is came stays line file = λ fed lost fault h refused.
-    let P : List Given → Type 0 = λ gs. HasFed reader' fed piece gs in (
+    let P : List FileOutcome → Type 0 = λ gs. HasFed reader' fed piece gs in (
       piece,
       subst P (sym is) (none_cut h more reader' piece cut came (stays fed h.cut) (line fed h.cut)
           (file fed h.cut)),
@@ -199,7 +199,7 @@ then_reads on more = record {
 }
 
 read_by : {F L : Type 0} {past : F → FilesPast} {list : F → L} {files files' : F}
-    → (past files').done ≡ (past files).done → list files' ≡ list files → (given : List Given)
+    → (past files').done ≡ (past files).done → list files' ≡ list files → (given : List FileOutcome)
     → (past files').given ≡ given → drop 1 given ≡ drop 1 (past files).given → OnlyReadsOn past list files files'
 read_by done same given is before =
     record { done = done; before = ap (λ gs. drop 1 gs) is ∙ before; same_list = same }
@@ -219,17 +219,18 @@ pub nothing_read : {A F L : Type 0} {past : F → FilesPast} {list : F → L} {r
     → HasReadOn past list reader files reader files
 nothing_read {reader = reader} = has_stayed reader (λ fed stands. stands) refl
 
-abbrev Stops : (came came' : ReadOutcome) → (given given' : List Given) → Type 0
+abbrev Stops : (came came' : ReadOutcome) → (given given' : List FileOutcome) → Type 0
 Stops came came' given given' = (came ≡ More) ⊎ ((came' ≡ came) × (given' ≡ given))
 
-then_stops : (came came' came'' : ReadOutcome) (given given' given'' : List Given) → Stops came came' given given'
+then_stops : (came came' came'' : ReadOutcome) (given given' given'' : List FileOutcome) → Stops came came' given given'
     → Stops came' came'' given' given'' → Stops came came'' given given''
 then_stops came came' came'' given given' given'' (inl more) n = inl more
 then_stops came came' came'' given given' given'' (inr same) (inl more) = inl (sym same.0 ∙ more)
 then_stops came came' came'' given given' given'' (inr same) (inr still) =
     inr (still.0 ∙ same.0, still.1 ∙ same.1)
 
-then_more : {A : Type 0} {reader reader' reader'' : FileReader A} {fed : Fed} {given given' given'' : List Given}
+then_more : {A : Type 0} {reader reader' reader'' : FileReader A} {fed : CutterPast}
+    {given given' given'' : List FileOutcome}
     → (m : FedMore reader fed given reader' given')
     → FedMore reader' (fed_after fed m.more) given' reader'' given'' → FedMore reader fed given reader'' given''
 then_more {reader = reader} {reader' = reader'} {reader'' = reader''} {fed = fed} {given'' = given''} m n =
@@ -264,7 +265,7 @@ module _ {A F L : Type 0} {past : F → FilesPast} {list : F → L} {reader read
   read_stopped failed is stops none stays = record {
     reads_on = read_by done same _ is (end_before failed (past files).given);
     feeds = λ fed lost h.
-        let P : List Given → Type 0 = λ gs. FedMore reader fed (past files).given reader' gs in
+        let P : List FileOutcome → Type 0 = λ gs. FedMore reader fed (past files).given reader' gs in
         subst P (sym is) (file_stopped h more reader' failed stops (none fed.end fed.longest) (stays fed h.cut));
   }
 
@@ -274,32 +275,32 @@ module _ {A F L : Type 0} {past : F → FilesPast} {list : F → L} {reader read
   read_unread is came stays = record {
     reads_on = read_by done same _ is refl;
     feeds = λ fed lost h.
-        let P : List Given → Type 0 = λ gs. FedMore reader fed (past files).given reader' gs in
+        let P : List FileOutcome → Type 0 = λ gs. FedMore reader fed (past files).given reader' gs in
         subst P (sym is) (file_unread h more reader' came (stays fed h.cut));
   }
 
   -- bytes that are cut
   pub read_cut : (piece : List ℕ) → (past files').given ≡ gave_bytes piece (past files).given → reader'.came ≡ More
-      → ((fed : Fed) → IsCutterAfter reader.cutter fed → IsCutterAfter reader'.cutter (fed_after fed piece))
+      → ((fed : CutterPast) → IsCutterAfter reader.cutter fed → IsCutterAfter reader'.cutter (fed_after fed piece))
       → HasReadOn past list reader files reader' files'
   read_cut piece is came cut = record {
     reads_on = read_by done same _ is (bytes_before piece (past files).given);
     feeds = λ fed lost h.
-        let P : List Given → Type 0 = λ gs. FedMore reader fed (past files).given reader' gs in
+        let P : List FileOutcome → Type 0 = λ gs. FedMore reader fed (past files).given reader' gs in
         subst P (sym is) (piece_cut h more reader' piece came (cut fed h.cut));
   }
 
   -- bytes that the cutter doesn't take
   pub read_refused : (piece : List ℕ) (cut : CutFault) → (past files').given ≡ gave_bytes piece (past files).given
       → reader'.came ≡ Refused cut → FedStays reader reader'
-      → ((fed : Fed) → IsCutterAfter reader.cutter fed → cut ≡ LineTooLong → HasLongLine (fed_after fed piece))
-      → ((fed : Fed) → IsCutterAfter reader.cutter fed → cut ≡ FileTooLong
+      → ((fed : CutterPast) → IsCutterAfter reader.cutter fed → cut ≡ LineTooLong → HasLongLine (fed_after fed piece))
+      → ((fed : CutterPast) → IsCutterAfter reader.cutter fed → cut ≡ FileTooLong
       → 2 ^ 62 < length fed.bytes + length piece)
       → HasReadOn past list reader files reader' files'
   read_refused piece cut is came stays line file = record {
     reads_on = read_by done same _ is (bytes_before piece (past files).given);
     feeds = λ fed lost h.
-        let P : List Given → Type 0 = λ gs. FedMore reader fed (past files).given reader' gs in
+        let P : List FileOutcome → Type 0 = λ gs. FedMore reader fed (past files).given reader' gs in
         subst P (sym is) (piece_refused h more reader' piece cut came (stays fed h.cut) (line fed h.cut)
         (file fed h.cut));
   }

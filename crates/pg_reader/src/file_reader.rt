@@ -1,6 +1,6 @@
 //! The reader of the open file.
 ghost use Rattle.std.specs.Prelude.{◌≡◌, ◌≢◌, ◌<◌, vec_len, length, IfSome, IfNone, OnOk};
-ghost use Rattle.pg_blocks.specs.Cutter.{IsCutterAfter, Fed, IsDrained, IsNextBlock, AreAllBlocks};
+ghost use Rattle.pg_blocks.specs.Cutter.{IsCutterAfter, CutterPast, IsDrained, IsNextBlock, AreAllBlocks};
 ghost use Rattle.pg_blocks.specs.Cutter.{handed, handed_early, HasLinesLeft, KeepsCutter, room_of, unfed};
 
 use crate::reader::Reader;
@@ -219,10 +219,10 @@ impl<A: Allocator + Copy> FileReader<A> {
     /// The next block that is cut, if there is one.
     pub fn take(&mut self) -> Option<Block<A>>
         ensures came { self.new.came ≡ self.old.came }
-        ensures stands { (past : Fed) → IsCutterAfter self.old.cutter past →
+        ensures stands { (past : CutterPast) → IsCutterAfter self.old.cutter past →
             IsCutterAfter self.new.cutter (handed past result) }
         ensures next { IfSome result (λ block.
-            (past : Fed) → IsCutterAfter self.old.cutter past → IsNextBlock past block) }
+            (past : CutterPast) → IsCutterAfter self.old.cutter past → IsNextBlock past block) }
         ensures none { IfNone result (IsDrained self.new.cutter) }
     {
         self.cutter.take()
@@ -234,10 +234,10 @@ impl<A: Allocator + Copy> FileReader<A> {
         requires { IsDrained self.old.cutter }
         ensures came { self.new.came ≡ self.old.came }
         ensures drained { IsDrained self.new.cutter }
-        ensures stands { (past : Fed) → IsCutterAfter self.old.cutter past →
+        ensures stands { (past : CutterPast) → IsCutterAfter self.old.cutter past →
             IsCutterAfter self.new.cutter (handed_early past result) }
         ensures lines { IfSome result (λ block.
-            (past : Fed) → IsCutterAfter self.old.cutter past → HasLinesLeft past block) }
+            (past : CutterPast) → IsCutterAfter self.old.cutter past → HasLinesLeft past block) }
     {
         match self.cutter.take_lines() {
             Ok(block) => block,
@@ -249,7 +249,7 @@ impl<A: Allocator + Copy> FileReader<A> {
     /// reader has no file then until another is opened.
     pub fn finish(&mut self) -> Option<Block<A>>
         requires { IsDrained self.old.cutter }
-        ensures all { (past : Fed) → IsCutterAfter self.old.cutter past → AreAllBlocks (handed past result) }
+        ensures all { (past : CutterPast) → IsCutterAfter self.old.cutter past → AreAllBlocks (handed past result) }
         ensures none { HasNoFile self.new }
         ensures came { self.new.came ≡ self.old.came }
     {

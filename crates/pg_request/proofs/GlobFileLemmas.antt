@@ -2,7 +2,7 @@
 use Rattle.std.proofs.Common.{◌≡◌, ◌∙◌, ℕ, ◌+◌, ◌<◌, ◌≤◌, List, [], ◌∷◌, ◌++◌, Option, Some, None, length, drop, get_or}
 use Rattle.std.proofs.Common.{add-one, drop-cons, append_assoc, append-nil, ap, refl, subst, sym}
 use Rattle.std.proofs.lemmas.List.{drop_all}
-use Rattle.pg_files.specs.Given.{Given}
+use Rattle.pg_files.specs.Given.{FileOutcome}
 use Rattle.pg_words.specs.Filters.{filter_said, filters_of}
 use Rattle.pg_words.specs.declared.request.FileFilter.{FileFilter}
 use Rattle.pg_request.specs.Asked.{before_files, glob_file, glob_files}
@@ -41,7 +41,7 @@ module _ (filters : List FileFilter) (i : ℕ) (d f : FileFilter) (h : i < lengt
     one_path path e = append_assoc front (path ∷ []) rest ∙ paths_here (Some path) e
 
     -- the file that wasn't read stands behind those that were
-    pub stops_there : (path : List ℕ) (contents : List (List ℕ)) (past mid past' : List Given) (fault : Fault)
+    pub stops_there : (path : List ℕ) (contents : List (List ℕ)) (past mid past' : List FileOutcome) (fault : Fault)
         → glob_file (filter_said f) ≡ Some path → HasRead past mid front contents → StopsAt path mid past' fault
         → FailsToReadAll (glob_files (filters_of filters)) past past' fault
     stops_there path contents past mid past' fault e read stops = record {
@@ -56,7 +56,7 @@ module _ (filters : List FileFilter) (i : ℕ) (d f : FileFilter) (h : i < lengt
     }
 
 -- all of them were read
-pub all_read : (filters : List FileFilter) (i : ℕ) (front contents : List (List ℕ)) (past past' : List Given)
+pub all_read : (filters : List FileFilter) (i : ℕ) (front contents : List (List ℕ)) (past past' : List FileOutcome)
     → length filters ≤ i
     → front ++ glob_files (filters_of (drop i filters)) ≡ glob_files (filters_of filters)
     → HasRead past past' front contents → HasRead past past' (glob_files (filters_of filters)) contents

@@ -4,7 +4,7 @@ ghost use Rattle.pg_grammar.specs.Memory.{patterns_of};
 ghost use Rattle.pg_grammar.specs.Slices.{bytes_of};
 ghost use Rattle.pg_selection.specs.Search.{ByLine};
 ghost use Rattle.pg_base.specs.Entries.{Ended, Left};
-ghost use Rattle.pg_files.specs.Given.{Given, File};
+ghost use Rattle.pg_files.specs.Given.{FileOutcome, File};
 ghost use Rattle.pg_words.specs.Filters.{filter_said, filters_of};
 ghost use Rattle.pg_request.specs.Asked.{glob_file, glob_files};
 ghost use Rattle.pg_request.specs.Reading.{contents_of, FailsToReadAll, HasRead, IsReadOrGivenUp, StopsAt};
@@ -110,7 +110,7 @@ fn read_to_end<S: Store>(
     bytes: &mut Vec<u8>,
     store: &mut S,
 ) -> Result<Result<(), ReadFault>, AllocError>
-    ensures { (path : List ℕ) → (past : List Given) → S.past store.old ≡ File path bytes.old.items Left ∷ past →
+    ensures { (path : List ℕ) → (past : List FileOutcome) → S.past store.old ≡ File path bytes.old.items Left ∷ past →
         IsReadOrGivenUp path past result bytes.new.items (S.past store.new) }
 {
     let mut buffer = vec![in alloc; 0u8; READ_SIZE]?;
@@ -124,7 +124,7 @@ fn read_by<S: Store>(
     store: &mut S,
 ) -> Result<Result<(), ReadFault>, AllocError>
     requires { 0 < length buffer.old }
-    ensures { (path : List ℕ) → (past : List Given) → S.past store.old ≡ File path bytes.old.items Left ∷ past →
+    ensures { (path : List ℕ) → (past : List FileOutcome) → S.past store.old ≡ File path bytes.old.items Left ∷ past →
         IsReadOrGivenUp path past result bytes.new.items (S.past store.new) }
 {
     loop {

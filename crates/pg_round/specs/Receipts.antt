@@ -2,7 +2,7 @@
 use Rattle.std.specs.Prelude.{◌≡◌, ℕ, ◌<◌, false, List, [], ◌∷◌, ◌++◌, Result}
 use Rattle.std.specs.Result.{MatchResult}
 use Rattle.pg_board.specs.Merge.{IsMerge}
-use Rattle.pg_selection.specs.Searched.{Searched}
+use Rattle.pg_selection.specs.Searched.{SearchedBlock}
 use Rattle.pg_base.specs.Sink.{Stream}
 use Rattle.pg_plan.specs.History.{Past, Event, Arrived, handed}
 use Rattle.pg_plan.specs.Drains.{IsSafe}
@@ -11,12 +11,12 @@ use Rattle.pg_round.specs.declared.fault.RoundFault.{RoundFault}
 use Rattle.pg_round.specs.declared.fault.RoundFault.TheVariants.{OutOfMemory, Sink}
 
 -- the events, the newest first, after these arrivals too
-abbrev pub arrivals : List Searched → List Event → List Event
+abbrev pub arrivals : List SearchedBlock → List Event → List Event
 arrivals [] events = events
 arrivals (r ∷ rs) events = arrivals rs (Arrived r ∷ events)
 
 -- the past after these arrivals too, and after drains that wrote this
-abbrev pub received : Past → List Searched → List ℕ → Past
+abbrev pub received : Past → List SearchedBlock → List ℕ → Past
 received past rs text = record past { events = arrivals rs past.events; written = past.written ++ text }
 
 -- what a writer took grew by this text, and all that was written is safe
@@ -28,27 +28,27 @@ abbrev pub WroteSafely : Past → List ℕ → List ℕ → Type 0
 WroteSafely past before after = (text : List ℕ) × Wrote past before after text
 
 -- a collector, by what it stands after, received these results, and wrote something safe
-abbrev pub HasReceived : (Past → Type 0) → List Searched → Past → List ℕ → List ℕ → Type 0
+abbrev pub HasReceived : (Past → Type 0) → List SearchedBlock → Past → List ℕ → List ℕ → Type 0
 HasReceived stands rs past before after =
     (text : List ℕ) × Wrote past before after text × stands (received past rs text)
 
 -- a collector received these results, and all was written that may be handed out after them
-abbrev pub HasWritten : (Past → Type 0) → List Searched → Past → List ℕ → List ℕ → Type 0
+abbrev pub HasWritten : (Past → Type 0) → List SearchedBlock → Past → List ℕ → List ℕ → Type 0
 HasWritten stands rs past before after =
     (text : List ℕ) × Wrote past before after text × stands (received past rs text)
     × (past.written ++ text ≡ handed (received past rs text))
 
 -- a collector received the rest of what passes put, behind what was taken, and all was written that may be
 abbrev pub HasDelivered :
-    (Past → Type 0) → List (List Searched) → List Searched → Past → List ℕ → List ℕ → Type 0
+    (Past → Type 0) → List (List SearchedBlock) → List SearchedBlock → Past → List ℕ → List ℕ → Type 0
 HasDelivered stands lists taken past before after =
-    (rs : List Searched) × IsMerge lists (taken ++ rs) × HasWritten stands rs past before after
+    (rs : List SearchedBlock) × IsMerge lists (taken ++ rs) × HasWritten stands rs past before after
 
 -- a collector received the result of each of these blocks, and all was written that may be handed out after them
 abbrev pub HasRound :
-    {B : Type 0} → (Past → Type 0) → (B → Searched → Type 0) → List B → Past → List ℕ → List ℕ → Type 0
+    {B : Type 0} → (Past → Type 0) → (B → SearchedBlock → Type 0) → List B → Past → List ℕ → List ℕ → Type 0
 HasRound stands finds blocks past before after =
-    (rs : List Searched) × HasAll finds blocks rs × HasWritten stands rs past before after
+    (rs : List SearchedBlock) × HasAll finds blocks rs × HasWritten stands rs past before after
 
 -- no write failed, unless that is the fault
 abbrev pub NoOtherFailed : RoundFault → (before after : Stream) → Type 0

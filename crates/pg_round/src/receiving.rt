@@ -1,13 +1,13 @@
 //! What the calling thread does with the results of a round.
 ghost use Rattle.std.specs.Prelude.{◌≡◌, ◌∷◌, [], IfErr};
-ghost use Rattle.pg_selection.specs.Searched.{Searched};
+ghost use Rattle.pg_selection.specs.Searched.{SearchedBlock};
 ghost use Rattle.pg_reader.specs.Going.{HasGoneOn};
 ghost use Rattle.pg_round.specs.Receipts.{HasDelivered, HasReceived, Takes};
 ghost use Rattle.pg_round.specs.declared.fault.RoundFault.TheVariants.{Sink as SinkFailed};
 
 use crate::fault::RoundFault;
 use pg_base::Sink;
-use pg_board::{Delivered, TakePass, Tray};
+use pg_board::{TakePass, Tray, TrayRest};
 use pg_plan::Collector;
 use pg_reader::Reader;
 use pg_selection::BlockResult;
@@ -59,7 +59,7 @@ fn receive<A: Allocator, S: Collector<BlockResult<A>>, W: Sink>(
     out: &mut W,
     found: BlockResult<A>,
 ) -> Result<(), RoundFault>
-    requires sees { (found : Searched) → S.searched found ≡ found }
+    requires sees { (found : SearchedBlock) → S.searched found ≡ found }
     ensures took { Takes result (S.stands collector.old) (HasReceived (S.stands collector.new) (found ∷ []))
         (W.stream out.old) (W.stream out.new) }
     ensures fault { IfErr result (λ fault. fault ≡ SinkFailed) }
@@ -89,7 +89,7 @@ pub(crate) fn take_all<
     signs: &Signs,
 ) -> Result<(), RoundFault>
     requires take { (take.old.tray ≡ tray.now) × (take.old.taken ≡ []) }
-    requires sees { (found : Searched) → S.searched found ≡ found }
+    requires sees { (found : SearchedBlock) → S.searched found ≡ found }
     requires reader { D.ready reader.old from.old }
     ensures same { (take.new.tray ≡ tray.now) × (take.new.workers ≡ take.old.workers) }
     ensures took { Takes result (S.stands collector.old) (HasReceived (S.stands collector.new) take.new.taken)
@@ -119,11 +119,11 @@ pub(crate) fn take_all<
 /// Takes in what was left on a tray, and writes all that may be handed out.
 pub(crate) fn deliver<R: Wait, A: Allocator, S: Collector<BlockResult<A>>, W: Sink>(
     rt: &R,
-    mut delivered: Delivered<BlockResult<A>, A>,
+    mut delivered: TrayRest<BlockResult<A>, A>,
     collector: &mut S,
     out: &mut W,
 ) -> Result<(), RoundFault>
-    requires sees { (found : Searched) → S.searched found ≡ found }
+    requires sees { (found : SearchedBlock) → S.searched found ≡ found }
     ensures took { Takes result (S.stands collector.old) (HasDelivered (S.stands collector.new) delivered.lists
         delivered.out) (W.stream out.old) (W.stream out.new) }
     ensures fault { IfErr result (λ fault. fault ≡ SinkFailed) }

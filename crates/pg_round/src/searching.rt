@@ -1,6 +1,6 @@
 //! The search of one round.
 ghost use Rattle.std.specs.Prelude.{◌≡◌, ◌+◌, ◌<◌, ◌≤◌, [], All, vec_len, length, IfOk, OnOk};
-ghost use Rattle.pg_selection.specs.Searched.{Searched};
+ghost use Rattle.pg_selection.specs.Searched.{SearchedBlock};
 ghost use Rattle.pg_workers.specs.Workers.{task_of, IsReady, HasFinished, AreBack};
 ghost use Rattle.pg_reader.specs.Going.{HasGoneOn};
 ghost use Rattle.pg_round.specs.Receipts.{HasReceived, HasRound, Takes};
@@ -14,7 +14,7 @@ use pg_board::TakePass;
 use pg_plan::Collector;
 use pg_reader::Reader;
 use pg_selection::BlockResult;
-use pg_workers::{BlockSearch, Opened, Round, Worker, close_round, open_round, search_rest};
+use pg_workers::{BlockSearch, OpenRound, Round, Worker, close_round, open_round, search_rest};
 use std::alloc::Allocator;
 use std::sync::{Arc, Wait};
 use std::thread::Threads;
@@ -55,7 +55,7 @@ fn search_beside<
 ) -> Result<Vec<Worker<A, C>, A>, RoundFault>
     requires ready { IsReady (task_of Q.seen round) }
     requires finished { All (HasFinished (task_of Q.seen round)) workers.items }
-    requires sees { (found : Searched) → S.searched found ≡ found }
+    requires sees { (found : SearchedBlock) → S.searched found ≡ found }
     requires take { (take.old.tray ≡ round.tray.now) × (take.old.taken ≡ []) }
     requires reader { D.ready reader.old from.old }
     ensures back { IfOk result (λ back. AreBack (task_of Q.seen round.entry) workers.items back.items) }
@@ -120,7 +120,7 @@ pub fn search_round<
     requires few { (0 < vec_len scratches.old) × (vec_len scratches.old ≤ 65) × (length blocks.now ≤ 1024)
         × (threads ≤ 64) }
     requires fits { All (Q.seen query.now).fits scratches.old.items }
-    requires sees { (found : Searched) → S.searched found ≡ found }
+    requires sees { (found : SearchedBlock) → S.searched found ≡ found }
     requires may { All (Q.seen query.now).may blocks.now }
     requires reader { D.ready reader.old from.old }
     ensures took { Takes result (S.stands collector.old) (HasRound (S.stands collector.new) (Q.seen query.now).finds
@@ -130,7 +130,7 @@ pub fn search_round<
         × All (Q.seen query.now).fits scratches.new.items) }
 {
     let count = count_workers(blocks.len(), scratches.len(), threads);
-    let Opened {
+    let OpenRound {
         board,
         tray,
         mut take,
@@ -146,7 +146,13 @@ pub fn search_round<
         rt, alloc, round, workers, &mut take, collector, out, reader, from,
     )?;
     search_rest(rt, round, &mut workers)?;
-    let delivered = close_round(alloc, query, blocks, board, tray, workers, take, scratches)?;
+    let searched = OpenRound {
+        board,
+        tray,
+        take,
+        workers,
+    };
+    let delivered = close_round(alloc, query, blocks, searched, scratches)?;
     deliver(rt, delivered, collector, out)?;
     Ok(())
 }

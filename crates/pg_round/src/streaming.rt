@@ -1,6 +1,6 @@
 //! The workers of a round, beside the thread that takes what they put.
 ghost use Rattle.std.specs.Prelude.{◌≡◌, ◌<◌, [], All, vec_len, IfErr, IfSome, IsSome};
-ghost use Rattle.pg_selection.specs.Searched.{Searched};
+ghost use Rattle.pg_selection.specs.Searched.{SearchedBlock};
 ghost use Rattle.pg_workers.specs.Workers.{task_of, IsReady, HasFinished, AreBack};
 ghost use Rattle.pg_round.specs.Receipts.{HasReceived, Takes};
 ghost use Rattle.pg_round.specs.declared.fault.RoundFault.TheVariants.{Sink as SinkFailed};
@@ -44,7 +44,7 @@ pub(crate) fn stream<
 ) -> (Vec<Worker<A, C>, A>, Result<(), RoundFault>)
     requires ready { IsReady (task_of Q.seen round.now) }
     requires finished { All (HasFinished (task_of Q.seen round.now)) workers.items × (1 < vec_len workers) }
-    requires sees { (found : Searched) → S.searched found ≡ found }
+    requires sees { (found : SearchedBlock) → S.searched found ≡ found }
     requires take { (take.old.tray ≡ tray.now) × (take.old.taken ≡ []) }
     requires reader { D.ready reader.old from.old }
     ensures back { AreBack (task_of Q.seen round.now) workers.items result.0.items }
@@ -59,7 +59,7 @@ pub(crate) fn stream<
     let mut jobs = Some(workers);
     let mut taking = || -> Result<(), RoundFault>
         requires take { (take.now.tray ≡ tray.now) × (take.now.taken ≡ [])
-            × ((found : Searched) → S.searched found ≡ found) }
+            × ((found : SearchedBlock) → S.searched found ≡ found) }
         requires reader { D.ready reader.now from.now }
         ensures same { (take.exit.now.tray ≡ tray.entry.now)
             × (take.exit.now.workers ≡ take.entry.now.workers) }

@@ -3,7 +3,7 @@ ghost use Rattle.std.specs.Prelude.{◌≡◌, [], false};
 
 use crate::runs::{Watched, operand, run_over, setup, tree_of};
 use pg_base::MemSink;
-use pg_files::{Ending, Listed, MemStore, OpenFault, ReadFault, Store};
+use pg_files::{Ending, MemStore, OpenFault, OperandFiles, ReadFault, Store};
 use pg_rows::Mode;
 use pg_search::{FreeGate, Setup};
 use pg_walk::{FileKind, MemTree, Node, Scope};
@@ -101,12 +101,12 @@ fn files_of<'n, 't>(
     tree: &'t MemTree,
     taken: &'n AtomicU64,
     most: &'n AtomicU64,
-) -> Listed<'t, MemTree, Awaited<'n>>
+) -> OperandFiles<'t, MemTree, Awaited<'n>>
     ensures { (result.walk.asked.items ≡ []) × (result.done ≡ false) }
 {
     let paths = paths(rt, alloc);
     let store = store_of(rt, alloc, taken, most);
-    let mut files = Listed::new(alloc, tree, store);
+    let mut files = OperandFiles::new(alloc, tree, store);
     let scope = Scope::all(alloc, false);
     let listed = files.list(alloc, tree, &paths, scope, false, String::new(alloc));
     listed.expect(rt, "memory");

@@ -4,7 +4,7 @@ ghost use Rattle.std.specs.Prelude.{◌≡◌, [], false};
 use crate::fixtures::PATIENCE;
 use crate::runs::{Outcome, operand, run_over, setup, sink, tree_of};
 use pg_base::MemSink;
-use pg_files::{Ending, Listed, MemStore, OpenFault, ReadFault, Store};
+use pg_files::{Ending, MemStore, OpenFault, OperandFiles, ReadFault, Store};
 use pg_search::{Gate, RunFault, SearchFault, Setup};
 use pg_walk::{MemTree, Scope};
 use std::alloc::Global;
@@ -56,12 +56,12 @@ fn file_of<'n, 't>(
     tree: &'t MemTree,
     case: &Case,
     reads: &'n AtomicU64,
-) -> Listed<'t, MemTree, Counted<'n>>
+) -> OperandFiles<'t, MemTree, Counted<'n>>
     ensures { (result.walk.asked.items ≡ []) × (result.done ≡ false) }
 {
     let operands = [operand(rt, alloc)];
     let store = store_of(rt, alloc, case, reads);
-    let mut files = Listed::new(alloc, tree, store);
+    let mut files = OperandFiles::new(alloc, tree, store);
     let scope = Scope::all(alloc, true);
     let listed = files.list(alloc, tree, &operands, scope, true, String::new(alloc));
     listed.expect(rt, "memory");

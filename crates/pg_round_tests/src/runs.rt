@@ -4,7 +4,7 @@ ghost use Rattle.pg_files.specs.Given.{nothing_given};
 
 use crate::fixtures::{Counting, Meeting, PATIENCE, text};
 use pg_base::{MemSink, Sink, WriteError};
-use pg_files::{Ending, Files, Listed, MemFiles, MemStore};
+use pg_files::{Ending, Files, MemFiles, MemStore, OperandFiles};
 use pg_rows::{Format, Mode, Separator};
 use pg_search::{FreeGate, Gate, SearchFault, Setup, run};
 use pg_walk::{FileKind, MemTree, Node, Scope};
@@ -65,7 +65,7 @@ fn file_of<'t>(rt: &impl Abort, alloc: Global, tree: &'t MemTree, bytes: &[u8]) 
     let operands = [operand(rt, alloc)];
     let mut store = MemStore::new(alloc);
     store.add("f", bytes, Ending::Ends).expect(rt, "memory");
-    let mut files = Listed::new(alloc, tree, store);
+    let mut files = OperandFiles::new(alloc, tree, store);
     let scope = Scope::all(alloc, true);
     let listed = files.list(alloc, tree, &operands, scope, true, String::new(alloc));
     listed.expect(rt, "memory");

@@ -9,7 +9,7 @@ use Rattle.std.proofs.lemmas.Bool.{and_parts, cases_lt, cases_eq, cases_Bool, eq
 use Rattle.std.proofs.Math.Seq.{take-nil}
 use Rattle.std.proofs.lemmas.List.{drop_more, append-nil, drop-drop, drop-take, length-take-le}
 use Rattle.pg_selection.specs.Search.{Search, SearchText, terminator, terminator_of, HasItsTrees}
-use Rattle.pg_selection.specs.Searched.{Searched, lines_of}
+use Rattle.pg_selection.specs.Searched.{SearchedBlock, lines_of}
 use Rattle.pg_blocks.specs.Lines.{lines}
 use Rattle.pg_selection.specs.Runs.{AreRuns, HasRuns}
 use Rattle.pg_selection.specs.BlockParts.{HasParts}
@@ -489,7 +489,7 @@ follows s q format c bytes before after place last count stop left offset r show
 
 -- What is known of a result.
 
-pub has_lines : (q : Search) (found : Searched) (runs : List Run) → HasItsTrees q → found.query ≡ q.text
+pub has_lines : (q : Search) (found : SearchedBlock) (runs : List Run) → HasItsTrees q → found.query ≡ q.text
     → HasRuns found.query found.block.bytes runs → HasLines q found.block.bytes runs (length (lines_of found))
 has_lines q found runs trees query has =
     let P : SearchText → Type 0 = λ t. HasRuns t found.block.bytes runs in
@@ -498,8 +498,8 @@ has_lines q found runs trees query has =
       total = ap (λ t. length (lines (terminator_of t) found.block.bytes)) query;
     }
 
-pub has_found : (q : Search) (found : Searched) (bytes : List ℕ) (runs : List Run) (parts : List Part) → HasItsTrees q
-    → found.query ≡ q.text → bytes ≡ found.block.bytes → HasRuns found.query found.block.bytes runs
+pub has_found : (q : Search) (found : SearchedBlock) (bytes : List ℕ) (runs : List Run) (parts : List Part)
+    → HasItsTrees q → found.query ≡ q.text → bytes ≡ found.block.bytes → HasRuns found.query found.block.bytes runs
     → HasParts found.query found.block.bytes parts → HasFound q bytes runs parts (length (lines_of found))
 has_found q found bytes runs parts trees query same has_runs has_parts =
     let P : List ℕ → Type 0 = λ bs. HasFound q bs runs parts (length (lines_of found)) in

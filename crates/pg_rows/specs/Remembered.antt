@@ -10,7 +10,7 @@ use Rattle.pg_selection.specs.declared.run.Run.{Run}
 use Rattle.pg_rows.specs.declared.format.Format.{Format}
 use Rattle.pg_rows.specs.declared.progress.Progress.{Progress}
 use Rattle.pg_rows.specs.declared.printer.Printer.{Printer}
-use Rattle.pg_rows.specs.declared.printer.Printed.{Printed}
+use Rattle.pg_rows.specs.declared.printer.PrintedBlock.{PrintedBlock}
 use Rattle.pg_rows.specs.declared.printer.Place.{Place}
 use Rattle.pg_rows.specs.Modes.{shows_rows}
 use Rattle.pg_rows.specs.Modes.{rows_in}
@@ -80,7 +80,7 @@ end_rows format c = rows_in format.mode [] (counted format c) (named format c)
 -- The rows of a block were written: what is remembered behind it, and where its last lines stand that may still be
 -- shown. What was held before may still be shown too, where no line of the block was kept.
 pub record IsRememberedBehind {A : Type 0} (p : Printer A) (q : Search) (format : Format) (c : Cursor) (bytes : List ℕ)
-    (printed : Printed) : Type 0 where
+    (printed : PrintedBlock) : Type 0 where
   pub told : IsOfTrail printed.progress format c.trail
   pub offset : printed.offset ≡ c.trail.offset
   pub within : printed.start ≤ length bytes

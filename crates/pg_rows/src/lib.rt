@@ -22,6 +22,6 @@ mod window;
 pub use format::{Format, Mode};
 pub use laws::{blocks_give_the_rows, colors_add_escapes, trails_tell_enough};
 pub use prefix::Prefix;
-pub use printer::{Printed, Printer};
+pub use printer::{PrintedBlock, Printer};
 pub use progress::Progress;
 pub use separator::{MAX_SEPARATOR, Separator};

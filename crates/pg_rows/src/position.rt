@@ -1,5 +1,12 @@
 //! Where lines stand.
 
+/// Lines that follow one another: where the first one stands, and how many there are.
+#[derive(Clone, Copy)]
+pub(crate) struct LineExtent {
+    pub(crate) first: Position,
+    pub(crate) count: usize,
+}
+
 /// Where a line stands in its file.
 #[derive(Clone, Copy)]
 pub(crate) struct Position {

@@ -15,7 +15,7 @@ ghost use Rattle.pg_base.specs.Sink.{WritesText};
 use crate::colors::end_of_parts;
 use crate::format::{EndRow, Format};
 use crate::places::{end_of_first, start_of_last};
-use crate::position::Position;
+use crate::position::{LineExtent, Position};
 use crate::prefix::Prefix;
 use crate::progress::Progress;
 use crate::rows::{size_of_lines, write_count, write_gap, write_lines, write_name, write_parts};
@@ -40,6 +40,13 @@ struct Place {
     used: usize,
 }
 
+/// The first lines of a run of selected lines, so many, which are kept.
+#[derive(Clone, Copy)]
+struct KeptRun {
+    run: Run,
+    count: usize,
+}
+
 /// What the first lines of a run of selected lines leave, where they are kept.
 #[derive(Clone, Copy)]
 struct Step {
@@ -52,7 +59,7 @@ struct Step {
 /// What is left of a block whose rows were written: the lines from `start` on, which may still be
 /// shown.
 #[derive(Clone, Copy, Debug)]
-pub struct Printed {
+pub struct PrintedBlock {
     progress: Progress,
     /// Where the next block begins in the file.
     offset: u64,
@@ -176,7 +183,7 @@ impl<A: Allocator> Printer<A> {
 
     /// Goes on behind a block whose rows were written: the one that `print` was given last, with what it
     /// answered. The block is held as long as its last lines may still be shown.
-    pub fn pass(&mut self, block: Arc<Block<A>, A>, printed: Printed)
+    pub fn pass(&mut self, block: Arc<Block<A>, A>, printed: PrintedBlock)
         requires { (q : Search) × (format : Format) × (c : Cursor) × IsAtCursor self.old q format c
             × IsRemembered self.old q format c (arc_value block).bytes printed }
         ensures { (q : Search) (format : Format) (c : Cursor) → IsAtCursor self.old q format c →
@@ -220,7 +227,7 @@ impl<A: Allocator> Printer<A> {
     }
 
     /// Goes past a block of which no line is held, by its runs of selected lines. Nothing looks at a line.
-    fn passed(&self, found: &BlockResult<A>) -> Printed
+    fn passed(&self, found: &BlockResult<A>) -> PrintedBlock
         requires may { MayPrint self.now found.now }
         requires hides { shows_lines self.now.format ≡ false }
         ensures { (q : Search) (format : Format) (c : Cursor) → IsAtCursor self.now q format c → HasItsTrees q →
@@ -228,7 +235,7 @@ impl<A: Allocator> Printer<A> {
     {
         let bytes = bytes_of(found);
         let total = found.lines() as u64;
-        Printed {
+        PrintedBlock {
             progress: self.progress.after(&self.format, found.runs(), total),
             offset: self.behind(bytes),
             fresh: true,
@@ -263,7 +270,7 @@ impl<A: Allocator> Printer<A> {
         &mut self,
         out: &mut W,
         found: &BlockResult<A>,
-    ) -> Result<Printed, WriteError>
+    ) -> Result<PrintedBlock, WriteError>
         requires may { MayPrint self.old found.now }
         requires shows { shows_parts self.old.format ≡ true }
         ensures same { self.new ≡ self.old }
@@ -275,14 +282,14 @@ impl<A: Allocator> Printer<A> {
             number: self.progress.number + 1,
             offset: self.offset,
         };
+        let lines = LineExtent { first, count: cut };
         let printed = self.passed(found);
         write_parts(
             out,
             &self.format,
             self.end,
             &mut self.prefix,
-            first,
-            cut,
+            lines,
             bytes_of(found),
             found.parts(),
         )?;
@@ -300,7 +307,7 @@ impl<A: Allocator> Printer<A> {
         &mut self,
         out: &mut W,
         found: &BlockResult<A>,
-    ) -> Result<Printed, WriteError>
+    ) -> Result<PrintedBlock, WriteError>
         requires { MayPrint self.old found.now }
         ensures same { self.new ≡ self.old }
         ensures writes { WritesResult self.old found.now (W.stream out.old) (W.stream out.new) result }
@@ -537,38 +544,39 @@ impl<A: Allocator> Printer<A> {
     }
 
     /// Writes the rows of the lines between two places: those before a run of selected lines, none of which is kept,
-    /// and the first lines of the run, so many, which are kept.
+    /// and the first lines of the run, which are kept.
     fn print_step<W: Sink>(
         &mut self,
         out: &mut W,
         place: Place,
         bytes: &[u8],
-        run: Run,
-        count: usize,
+        kept: KeptRun,
         next: Step,
         parts: &[Part],
     ) -> Result<(), WriteError>
-        requires may { MayStep self.old bytes.now parts.now place run count }
-        requires steps { StepsOver self.old bytes.now parts.now place run count next }
+        requires may { MayStep self.old bytes.now parts.now place kept.run kept.count }
+        requires steps { StepsOver self.old bytes.now parts.now place kept.run kept.count next }
         requires leading { HasLeading self.old next.passed
-            (drop place.progress.countdown (gap_lines self.old bytes.now place run))
-            (self.old.offset + run.span.start) }
-        requires takes { (q : Search) × TakesParts q self.old bytes.now parts.now place run next.place }
+            (drop place.progress.countdown (gap_lines self.old bytes.now place kept.run))
+            (self.old.offset + kept.run.span.start) }
+        requires takes { (q : Search) × TakesParts q self.old bytes.now parts.now place kept.run next.place }
         ensures same { self.new ≡ self.old }
-        ensures writes { (q : Search) → TakesParts q self.old bytes.now parts.now place run next.place →
-            WritesText (shown_step q self.old bytes.now place run next) (W.stream out.old) (W.stream out.new) result }
+        ensures writes { (q : Search) → TakesParts q self.old bytes.now parts.now place kept.run next.place →
+            WritesText (shown_step q self.old bytes.now place kept.run next) (W.stream out.old) (W.stream out.new)
+            result }
     {
+        let run = kept.run;
         let gap = &bytes[place.at..run.span.start];
         let hidden = run.first - place.seen;
         let offset = self.offset + place.at as u64;
         self.print_unkept(out, place.progress, next.passed, offset, gap, hidden)?;
-        let kept = &bytes[..next.place.at];
+        let text = &bytes[..next.place.at];
         let own = &parts[place.used..next.place.used];
         let first = Position {
             number: next.passed.number + 1,
             offset: self.offset + run.span.start as u64,
         };
-        self.print_kept(out, first, kept, run.span.start, run.first, own)
+        self.print_kept(out, first, text, run.span.start, run.first, own)
     }
 
     /// Writes the rows of the lines up to the last one of a block that is kept. It goes from run to run,
@@ -599,7 +607,8 @@ impl<A: Allocator> Printer<A> {
                 return Ok(place);
             }
             let next = self.step(place, bytes, *run, count, parts);
-            self.print_step(out, place, bytes, *run, count, next, parts)?;
+            let kept = KeptRun { run: *run, count };
+            self.print_step(out, place, bytes, kept, next, parts)?;
             place = next.place;
         }
         Ok(place)
@@ -610,7 +619,7 @@ impl<A: Allocator> Printer<A> {
         &mut self,
         out: &mut W,
         found: &BlockResult<A>,
-    ) -> Result<Printed, WriteError>
+    ) -> Result<PrintedBlock, WriteError>
         requires may { MayPrint self.old found.now }
         requires shows { shows_lines self.old.format ≡ true }
         ensures same { self.new ≡ self.old }
@@ -624,7 +633,7 @@ impl<A: Allocator> Printer<A> {
         let next = self.behind(bytes);
         let offset = self.offset + place.at as u64;
         let stop = self.print_passed(out, place.progress, offset, &bytes[place.at..], left)?;
-        Ok(Printed {
+        Ok(PrintedBlock {
             progress: last,
             offset: next,
             fresh: place.at == 0,

@@ -10,7 +10,7 @@ ghost use Rattle.pg_base.specs.Sink.{WritesText};
 
 use crate::colors::{Color, write_both, write_marked_name, write_painted, write_text};
 use crate::format::Format;
-use crate::position::Position;
+use crate::position::{LineExtent, Position};
 use crate::prefix::Prefix;
 use itoa::Buffer;
 use pg_base::{Sink, WriteError, write_all};
@@ -180,36 +180,33 @@ fn write_row<W: Sink, A: Allocator>(
     write_part_text(out, format, end, text)
 }
 
-/// Writes the row of a part of some bytes, unless its line stands behind the first `cut` ones. Their first line stands
-/// at this position.
+/// Writes the row of a part of some bytes, unless its line stands behind the first ones, which are these.
 fn write_part<W: Sink, A: Allocator>(
     out: &mut W,
     format: &Format,
     end: u8,
     prefix: &mut Prefix<A>,
-    first: Position,
-    cut: usize,
+    lines: LineExtent,
     bytes: &[u8],
     part: Part,
 ) -> Result<(), WriteError>
     requires within { IsPartOf bytes.now part }
-    requires fits { CanNumber first cut (length bytes.now) }
+    requires fits { CanNumber lines.first lines.count (length bytes.now) }
     ensures same { prefix.new ≡ prefix.old }
-    ensures writes { WritesText (part_row_within format.now end prefix.old first cut bytes.now part)
+    ensures writes { WritesText (part_row_within format.now end prefix.old lines.first lines.count bytes.now part)
         (W.stream out.old) (W.stream out.new) result }
 {
-    if part.line >= cut {
+    if part.line >= lines.count {
         return Ok(());
     }
     let at = Position {
-        number: first.number + part.line as u64,
-        offset: first.offset + part.span.start as u64,
+        number: lines.first.number + part.line as u64,
+        offset: lines.first.offset + part.span.start as u64,
     };
     write_row(out, format, end, prefix, b':', at, part.span.of(bytes))
 }
 
-/// Writes the rows of the parts of some bytes that stand in their first `cut` lines. The first of these stands at this
-/// position.
+/// Writes the rows of the parts of some bytes that stand in their first lines, which are these.
 ///
 /// # Errors
 ///
@@ -219,19 +216,18 @@ pub(crate) fn write_parts<W: Sink, A: Allocator>(
     format: &Format,
     end: u8,
     prefix: &mut Prefix<A>,
-    first: Position,
-    cut: usize,
+    lines: LineExtent,
     bytes: &[u8],
     parts: &[Part],
 ) -> Result<(), WriteError>
     requires within { EachIndex parts.now (λ k. IsPartOf bytes.now (get_or parts.now k no_part)) }
-    requires fits { CanNumber first cut (length bytes.now) }
+    requires fits { CanNumber lines.first lines.count (length bytes.now) }
     ensures same { prefix.new ≡ prefix.old }
-    ensures writes { WritesText (part_rows format.now end prefix.old first.number first.offset cut bytes.now parts.now)
-        (W.stream out.old) (W.stream out.new) result }
+    ensures writes { WritesText (part_rows format.now end prefix.old lines.first.number lines.first.offset lines.count
+        bytes.now parts.now) (W.stream out.old) (W.stream out.new) result }
 {
     for part in parts {
-        write_part(out, format, end, prefix, first, cut, bytes, *part)?;
+        write_part(out, format, end, prefix, lines, bytes, *part)?;
     }
     Ok(())
 }

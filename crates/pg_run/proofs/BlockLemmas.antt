@@ -6,7 +6,7 @@ use Rattle.std.proofs.lemmas.List.{append-nil}
 use Rattle.std.proofs.lemmas.List.Concat.{flat_map-append}
 use Rattle.pg_blocks.specs.Lines.{lines, AreShort, AreWhole}
 use Rattle.pg_blocks.specs.Blocks.{BlockData, joined, EndsWith, AreNumbered}
-use Rattle.pg_blocks.specs.Cutter.{Fed, handed as handed_out, IsCutterAfter, IsNextBlock, AreAllBlocks}
+use Rattle.pg_blocks.specs.Cutter.{CutterPast, handed as handed_out, IsCutterAfter, IsNextBlock, AreAllBlocks}
 use Rattle.pg_blocks.specs.Cutter.{HasLinesLeft, held}
 use Rattle.pg_blocks.specs.declared.cutter.Cutter.{Cutter}
 use Rattle.pg_blocks.proofs.LineLemmas.{lines-append, whole_append}
@@ -33,7 +33,7 @@ all_apart : {X : Type 0} (P : X → Type 0) (xs ys : List X) → AllByRecursion 
 all_apart P [] ys h = (tt, h)
 all_apart P (x ∷ xs) ys h = let r = all_apart P xs ys h.1 in ((h.0, r.0), r.1)
 
-pub given_end : {A : Type 0} (cutter : Cutter A) (f : Fed) (end : ℕ) → IsCutterAfter cutter f → f.end ≡ end
+pub given_end : {A : Type 0} (cutter : Cutter A) (f : CutterPast) (end : ℕ) → IsCutterAfter cutter f → f.end ≡ end
     → AllEnd end f.taken
 given_end cutter f end s ends =
     let all = fed_end f (f.taken ++ cutter.ready.items) (held cutter) s.cut in
@@ -46,17 +46,17 @@ joined_apart xs ys zs =
     ∙ append_assoc (joined xs) (joined ys) zs
 
 -- the block that a cutter gives, and what comes behind it
-pub record Gives (f : Fed) (b : BlockData) (more : List ℕ) : Type 0 where
+pub record Gives (f : CutterPast) (b : BlockData) (more : List ℕ) : Type 0 where
   pub numbered : AreNumbered f.file 0 (f.taken ++ b ∷ [])
   pub some : b.bytes ≢ []
   pub whole : f.bytes ≡ joined f.taken ++ (b.bytes ++ more)
   pub apart : IsApart f.end b.bytes more
 
 -- it does, and the block is whole lines
-abbrev pub GivesLines : Fed → BlockData → Type 0
+abbrev pub GivesLines : CutterPast → BlockData → Type 0
 GivesLines f b = (more : List ℕ) × Gives f b more × AreWhole f.end b.bytes
 
-pub gives_next : (f : Fed) (b : BlockData) → IsNextBlock f b → GivesLines f b
+pub gives_next : (f : CutterPast) (b : BlockData) → IsNextBlock f b → GivesLines f b
 gives_next f b n =
     let later = n.cut.0 in
     let all = fed_end f (f.taken ++ b ∷ later) n.cut.1 n.cut.2 in
@@ -75,7 +75,7 @@ gives_next f b n =
     )
 
 -- the whole lines that were in no block
-pub gives_early : (f : Fed) (b : BlockData) → HasLinesLeft f b → GivesLines f b
+pub gives_early : (f : CutterPast) (b : BlockData) → HasLinesLeft f b → GivesLines f b
 gives_early f b h = (
   h.none.0,
   record {
@@ -90,7 +90,7 @@ gives_early f b h = (
   inr h.ends,
 )
 
-pub gives_last : (f : Fed) (b : BlockData) → AreAllBlocks (handed_out f (Some b)) → Gives f b []
+pub gives_last : (f : CutterPast) (b : BlockData) → AreAllBlocks (handed_out f (Some b)) → Gives f b []
 gives_last f b all =
     let cutting = all_are_cutting (handed_out f (Some b)) all in
     record {
@@ -114,8 +114,8 @@ all_short longest (l ∷ ls) h few = (
   all_short longest ls (λ a. h (suc a.0, a.1, omega (arith, a.2), a.3, a.4)) few,
 )
 
-pub short_part : {A : Type 0} (cutter : Cutter A) (f : Fed) (b : BlockData) (more : List ℕ) → IsCutterAfter cutter f
-    → f.longest ≤ 2 ^ 30 → Gives f b more → AreShort f.end b.bytes
+pub short_part : {A : Type 0} (cutter : Cutter A) (f : CutterPast) (b : BlockData) (more : List ℕ)
+    → IsCutterAfter cutter f → f.longest ≤ 2 ^ 30 → Gives f b more → AreShort f.end b.bytes
 short_part cutter f b more s few gives =
     let end = f.end in
     let P : List ℕ → Type 0 = λ l. length l ≤ 2 ^ 30 in

@@ -9,7 +9,7 @@ use Rattle.std.proofs.lemmas.List.{append-nil, get_or_at, length_push}
 use Rattle.std.proofs.lemmas.List.Folds.{list_all-append}
 use Rattle.pg_selection.specs.Search.{terminator}
 use Rattle.pg_blocks.specs.Blocks.{BlockData}
-use Rattle.pg_selection.specs.Searched.{Searched}
+use Rattle.pg_selection.specs.Searched.{SearchedBlock}
 use Rattle.pg_rows.specs.Output.{HasRoom, output, status}
 use Rattle.pg_rows.specs.Enough.{is_enough}
 use Rattle.pg_base.specs.Sink.{Stream, IsBeginning}
@@ -184,7 +184,7 @@ module _ {A Q C : Type 0} {asks : Ghosts Q A C} {engine : Engine A Q C asks} {ai
       ∙ (append_assoc h.taken (waiting engine) (b ∷ []) ∙ ap (λ bs. h.taken ++ bs) (sym more))) stands
 
   -- the result of the block that was announced is taken
-  pub is_first : (b : BlockData) → MayStep aim steps (Announces b) → (r : Searched)
+  pub is_first : (b : BlockData) → MayStep aim steps (Announces b) → (r : SearchedBlock)
       → r ≡ record { query = aim.query.text; block = b } → answer (planned past (Announces b)) r ≡ Taken
   is_first b m r is =
       let next = planned past (Announces b) in
@@ -197,12 +197,12 @@ module _ {A Q C : Type 0} {asks : Ghosts Q A C} {engine : Engine A Q C asks} {ai
       let shaped = shape_of (terminator aim.query) (plan past) h.stands.lawful in
       let new : is_taken (taken_of aim.query h.events) b ≡ false =
       next_not_taken (terminator aim.query) aim.query h.events b shaped place in
-      let F : Searched → Type 0 = λ x. answer next x ≡ Taken in
+      let F : SearchedBlock → Type 0 = λ x. answer next x ≡ Taken in
       subst F (sym is)
       (first_is_taken next (record { query = aim.query.text; block = b }) (place, shaped) refl known new)
 
   -- the next block was announced, and its result kept
-  pub holds_block : (engine' : Engine A Q C asks) (b : BlockData) (r : Searched) → MayStep aim steps (Announces b)
+  pub holds_block : (engine' : Engine A Q C asks) (b : BlockData) (r : SearchedBlock) → MayStep aim steps (Announces b)
       → SearchesFor engine' aim.query → engine'.setup ≡ aim.setup → engine'.files ≡ opened steps
       → waiting engine ≡ [] → waiting engine' ≡ [] → r ≡ record { query = aim.query.text; block = b }
       → IsAfter engine'.sequencer (arrived (planned past (Announces b)) r)

@@ -21,7 +21,7 @@ use Rattle.pg_base.specs.Sink.{Stream, IsBeginning, TakesPart}
 use Rattle.pg_base.proofs.SinkLemmas.{takes_longer}
 use Rattle.pg_plan.specs.Plan.{Step, Announces, Ends, entries_of}
 use Rattle.pg_plan.proofs.CursorLemmas.{joined_push}
-use Rattle.pg_files.specs.Given.{Given, File, FilesPast, entries_given, files_given, newest_name}
+use Rattle.pg_files.specs.Given.{FileOutcome, File, FilesPast, entries_given, files_given, newest_name}
 use Rattle.pg_run.specs.Told.{AddsFailure, faults_of}
 use Rattle.pg_base.specs.Causes.{fault_line}
 use Rattle.pg_run.specs.Faults.{fault_of_cut}
@@ -53,14 +53,14 @@ same_behind : (xs ys zs : List ℕ) → xs ++ ys ≡ xs ++ zs → ys ≡ zs
 same_behind [] ys zs e = e
 same_behind (x ∷ xs) ys zs e = same_behind xs ys zs (ap (λ l. drop 1 l) e)
 
-pub safe_by : (aim : Aim) (steps : List Step) (given : List Given) (taken : List ℕ)
+pub safe_by : (aim : Aim) (steps : List Step) (given : List FileOutcome) (taken : List ℕ)
     → TakesPart (output_of aim steps) aim.out.taken taken
     → ((files : List Entry) → IsContinuation (entries_given given) files
     → IsBeginning (output_of aim steps) (output aim.query (format_of aim) files)) → IsCommonBeginning aim given taken
 safe_by aim steps given taken part f = λ files on.
     takes_longer (output_of aim steps) (output aim.query (format_of aim) files) aim.out.taken taken part (f files on)
 
-pub read_cause : (fault : RunFault) (aim : Aim) (given : List Given) (out : Stream) → SearchCause fault aim out
+pub read_cause : (fault : RunFault) (aim : Aim) (given : List FileOutcome) (out : Stream) → SearchCause fault aim out
     → ReadCause fault aim given out
 read_cause OutOfMemory aim given out c = tt
 read_cause Sink aim given out c = c
@@ -87,7 +87,8 @@ pub takes_all : (aim : Aim) (steps : List Step) (out : Stream) → AllIsWritten 
 takes_all aim steps out e = (output_of aim steps, ([], append-nil (output_of aim steps)), e)
 
 -- all of the plan was written, whose open file was left
-left_lines : (aim : Aim) (steps : List Step) (given : List Given) (name front rest : List ℕ) → HasRoom (format_of aim)
+left_lines : (aim : Aim) (steps : List Step) (given : List FileOutcome) (name front rest : List ℕ)
+    → HasRoom (format_of aim)
     → HasOpenFile aim.query (format_of aim) name front rest Left (entries_of steps) (entries_given given)
     → (out : Stream) → AllIsWritten aim steps out
     → GotWholeLines aim.query (format_of aim) (entries_given given) aim.out out
@@ -110,7 +111,7 @@ left_lines aim steps given name front rest room r out e =
 -- What was read and not cut.
 
 -- a file that can't go on was cut whole
-none_lost : (came : ReadOutcome) (failed : Bool) (end longest : ℕ) (given : List Given) (lost : List ℕ)
+none_lost : (came : ReadOutcome) (failed : Bool) (end longest : ℕ) (given : List FileOutcome) (lost : List ℕ)
     → ending_after came ≡ ending_of failed → IsLost came end longest given lost → lost ≡ []
 none_lost More failed end longest given lost e h = h
 none_lost End failed end longest given lost e h = h
@@ -125,7 +126,7 @@ none_runs End = refl
 none_runs Failure = refl
 none_runs (Refused fault) = refl
 
-cut_cause : (cut : CutFault) (aim : Aim) (given : List Given) (out : Stream)
+cut_cause : (cut : CutFault) (aim : Aim) (given : List FileOutcome) (out : Stream)
     → CutCause cut (terminator aim.query) aim.setup.line given → ReadCause (fault_of_cut cut) aim given out
 cut_cause NoMemory aim given out c = tt
 cut_cause LineTooLong aim given out c = c
@@ -135,7 +136,7 @@ pub drained_by : {A : Type 0} {cutter cutter' : Cutter A} → cutter' ≡ cutter
 drained_by {A = A} e h = let D : Cutter A → Type 0 = λ c. IsDrained c in subst D (sym e) h
 
 -- An open file.
-module _ {A : Type 0} {reader : FileReader A} {aim : Aim} {given : List Given} {steps : List Step}
+module _ {A : Type 0} {reader : FileReader A} {aim : Aim} {given : List FileOutcome} {steps : List Step}
     (h : HasCut reader aim given steps) where
   abbrev end_of : ℕ
   end_of = terminator aim.query
@@ -239,7 +240,7 @@ module _ {A : Type 0} {reader : FileReader A} {aim : Aim} {given : List Given} {
       }
 
   -- more was read, or the file can't go on, and no block was taken
-  same_taken : (reader' : FileReader A) (given' : List Given) (bytes rest lost : List ℕ)
+  same_taken : (reader' : FileReader A) (given' : List FileOutcome) (bytes rest lost : List ℕ)
       → IsCutterAfter reader'.cutter (record h.fed { bytes = bytes }) → files_given given' ≡ files_given given
       → bytes ++ lost ≡ joined h.fed.taken ++ rest → IsLost reader'.came end_of aim.setup.line given' lost
       → HasOpenFile aim.query (format_of aim) h.name (joined h.fed.taken) rest (ending_after reader'.came)
@@ -296,7 +297,7 @@ module _ {A : Type 0} {reader : FileReader A} {aim : Aim} {given : List Given} {
 
 -- The same, and the engine has the blocks that were taken.
 module _ {A Q C : Type 0} {asks : Ghosts Q A C} {reader : FileReader A} {engine : Engine A Q C asks} {aim : Aim}
-    {given : List Given} {out : Stream}
+    {given : List FileOutcome} {out : Stream}
     (h : IsInsideFile reader engine aim given out) where
   breaks_block : (b : BlockData) (more : List ℕ) (out' : Stream) (fault : RunFault) → Gives h.cuts.fed b more
       → Seam h.cuts b.bytes (behind h.cuts more) → BreaksOffInSearch aim (Announces b ∷ h.steps) out' fault
@@ -318,7 +319,8 @@ module _ {A Q C : Type 0} {asks : Ghosts Q A C} {reader : FileReader A} {engine 
   }
 
   -- what was written is a beginning, whatever the reader reads on
-  begins_still : (reader' : FileReader A) (given' : List Given) (out' : Stream) → HasCut reader' aim given' h.steps
+  begins_still : (reader' : FileReader A) (given' : List FileOutcome) (out' : Stream)
+      → HasCut reader' aim given' h.steps
       → TakesPart (output_of aim h.steps) aim.out.taken out'.taken → IsCommonBeginning aim given' out'.taken
   begins_still reader' given' out' c part = safe_by aim h.steps given' out'.taken part (λ files on.
       follows_begins aim.query (format_of aim) (entries_of h.steps) (entries_given given') files (room_of h.holds)
@@ -326,7 +328,7 @@ module _ {A Q C : Type 0} {asks : Ghosts Q A C} {reader : FileReader A} {engine 
 
   -- A round was searched, beside which the file may have been read on.
 
-  pub rest_breaks : (reader' : FileReader A) (given' : List Given) (out' : Stream) (fault : RunFault)
+  pub rest_breaks : (reader' : FileReader A) (given' : List FileOutcome) (out' : Stream) (fault : RunFault)
       → HasCut reader' aim given' h.steps → BreaksOffInSearch aim h.steps out' fault
       → BreaksOffInFile aim given' out' fault
   rest_breaks reader' given' out' fault c k = record {
@@ -431,7 +433,7 @@ module _ {A Q C : Type 0} {asks : Ghosts Q A C} {reader : FileReader A} {engine 
   refused_last out' cut fault answer e is (inr k) = rest_breaks reader given out' answer h.cuts k
 
 -- A file that may be read further.
-module _ {A : Type 0} {reader : FileReader A} {aim : Aim} {given : List Given} {steps : List Step}
+module _ {A : Type 0} {reader : FileReader A} {aim : Aim} {given : List FileOutcome} {steps : List Step}
     (h : HasCut reader aim given steps) (more : reader.came ≡ More) where
   open_yet : HasOpenFile aim.query (format_of aim) h.name (joined h.fed.taken) h.rest Left (entries_of steps)
       (entries_given given)
@@ -448,7 +450,7 @@ module _ {A : Type 0} {reader : FileReader A} {aim : Aim} {given : List Given} {
       sym (append-nil h.fed.bytes) ∙ (ap (λ xs. h.fed.bytes ++ xs) (sym none) ∙ h.whole)
 
 -- its cutter was fed all that was read but what was lost
-pub has_fed : {A : Type 0} {reader : FileReader A} {aim : Aim} {given : List Given} {steps : List Step}
+pub has_fed : {A : Type 0} {reader : FileReader A} {aim : Aim} {given : List FileOutcome} {steps : List Step}
     (h : HasCut reader aim given steps) → HasFed reader h.fed h.lost given
 has_fed {reader = reader} {aim = aim} {given = given} h =
     let ending = ending_after reader.came in
@@ -464,7 +466,7 @@ has_fed {reader = reader} {aim = aim} {given = given} h =
     }
 
 -- The reader read on, and no block was taken.
-module _ {A : Type 0} {reader reader' : FileReader A} {aim : Aim} {given given' : List Given} {steps : List Step}
+module _ {A : Type 0} {reader reader' : FileReader A} {aim : Aim} {given given' : List FileOutcome} {steps : List Step}
     (h : HasCut reader aim given steps) (on : FedMore reader h.fed given reader' given')
     (before : drop 1 given' ≡ drop 1 given) where
   abbrev all_read : List ℕ
@@ -529,7 +531,7 @@ cuts_on h on = fed_cut h (on.feeds h.fed h.lost (has_fed h)) on.reads_on.before
 
 -- it may be left
 pub may_leave : {A Q C : Type 0} {asks : Ghosts Q A C} {reader : FileReader A} {engine : Engine A Q C asks}
-    {aim : Aim} {given : List Given} {out : Stream}
+    {aim : Aim} {given : List FileOutcome} {out : Stream}
     (h : IsInsideFile reader engine aim given out) → reader.came ≡ More
     → is_enough aim.query (format_of aim) (entries_of h.steps) ≡ true → MayEndFile engine aim false given out
 may_leave {aim = aim} {given = given} h more e = record {
@@ -552,7 +554,7 @@ read_on {aim = aim} h on = record { steps = h.steps; holds = h.holds; cuts = cut
 
 -- memory went from the engine to the reader
 pub recycled : {A Q C : Type 0} {asks : Ghosts Q A C} {reader : FileReader A} {engine : Engine A Q C asks} {aim : Aim}
-    {given : List Given} {out : Stream}
+    {given : List FileOutcome} {out : Stream}
     (h : IsInsideFile reader engine aim given out) (reader' : FileReader A) (engine' : Engine A Q C asks)
     → reader'.cutter ≡ reader.cutter → reader'.came ≡ reader.came → HasPlan engine' aim h.steps out
     → IsInsideFile reader' engine' aim given out
@@ -561,7 +563,7 @@ recycled h reader' engine' cutter came holds =
 
 -- the blocks that wait were searched
 pub flushed : {A Q C : Type 0} {asks : Ghosts Q A C} {reader : FileReader A} {engine : Engine A Q C asks} {aim : Aim}
-    {given : List Given} {out : Stream}
+    {given : List FileOutcome} {out : Stream}
     (h : IsInsideFile reader engine aim given out) (engine' : Engine A Q C asks) (out' : Stream)
     → HasPlan engine' aim h.steps out'
     → IsInsideFile reader engine' aim given out'
@@ -573,7 +575,7 @@ ok_by (Ok y) P x h p = subst P (sym h) p
 ok_by (Err e) P x h p = tt
 
 -- what is told of a file once it was read further, by an answer that says whether that failed
-pub told_more : {A : Type 0} {reader reader' : FileReader A} {aim aim' : Aim} {given given' : List Given}
+pub told_more : {A : Type 0} {reader reader' : FileReader A} {aim aim' : Aim} {given given' : List FileOutcome}
     {steps steps' : List Step} (h : HasCut reader aim given steps) (h' : HasCut reader' aim' given' steps')
     (failed : Bool)
     → reader.came ≡ More → is_failed (ending_after reader'.came) ≡ failed → drop 1 given' ≡ drop 1 given
@@ -593,7 +595,7 @@ told_more {reader = reader} {reader' = reader'} {given = given} {given' = given'
     ∙ ap (λ f. faults_of given ++ line f) e)))
 
 -- The file may end, and does.
-module _ {A Q C : Type 0} {asks : Ghosts Q A C} {engine : Engine A Q C asks} {aim : Aim} {given : List Given}
+module _ {A Q C : Type 0} {asks : Ghosts Q A C} {engine : Engine A Q C asks} {aim : Aim} {given : List FileOutcome}
     {out : Stream} (failed : Bool)
     (h : MayEndFile engine aim failed given out) where
   pub file_ended : (engine' : Engine A Q C asks) (out' : Stream) → HasPlan engine' aim (Ends failed ∷ h.steps) out'

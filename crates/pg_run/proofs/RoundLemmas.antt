@@ -13,7 +13,7 @@ use Rattle.std.proofs.lemmas.Option.{slice_get_within, slice_get-map, get_or_fro
 use Rattle.pg_blocks.specs.Lines.{AreShort}
 use Rattle.pg_selection.specs.Search.{SearchText, terminator, terminator_of}
 use Rattle.pg_blocks.specs.Blocks.{BlockData}
-use Rattle.pg_selection.specs.Searched.{Searched}
+use Rattle.pg_selection.specs.Searched.{SearchedBlock}
 use Rattle.pg_plan.specs.declared.answers.Arrival.{Arrival}
 use Rattle.pg_plan.specs.declared.answers.Arrival.TheVariants.{Taken, Double, Stranger}
 use Rattle.pg_plan.specs.Plan.{Step, Opens, Announces, Ends, Misses, IsShaped, IsPlan, announced, opened}
@@ -49,20 +49,21 @@ after_keeps Taken b keys c e = any_more (b.file, b.number) keys c e
 after_keeps Double b keys c e = e
 after_keeps Stranger b keys c e = e
 
-stays_one : (past : Past) (r : Searched) (b : BlockData) → is_taken (taken_of past.query past.events) b ≡ true
+stays_one : (past : Past) (r : SearchedBlock) (b : BlockData) → is_taken (taken_of past.query past.events) b ≡ true
     → is_taken (taken_of past.query (Arrived r ∷ past.events)) b ≡ true
 stays_one past r b e =
     let keys = taken_of past.query past.events in
     after_keeps (arrival past.query (plan_of past.events) keys r) r.block keys b e
 
-pub stays : (past : Past) (rs : List Searched) (b : BlockData) → is_taken (taken_of past.query past.events) b ≡ true
+pub stays : (past : Past) (rs : List SearchedBlock) (b : BlockData)
+    → is_taken (taken_of past.query past.events) b ≡ true
     → is_taken (taken_of past.query (arrivals rs past.events)) b ≡ true
 stays past [] b e = e
 stays past (r ∷ rs) b e = stays (record past { events = Arrived r ∷ past.events }) rs b (stays_one past r b e)
 
 -- The result of an announced block leaves it taken.
 
-module _ (past : Past) (r : Searched) (b : BlockData) (shaped : IsShaped (terminator past.query) (plan past))
+module _ (past : Past) (r : SearchedBlock) (b : BlockData) (shaped : IsShaped (terminator past.query) (plan past))
     (is : r ≡ record { query = past.query.text; block = b }) (known : Contains (announced (plan past)) b) where
   abbrev keys : List (ℕ × ℕ)
   keys = taken_of past.query past.events
@@ -83,11 +84,11 @@ module _ (past : Past) (r : Searched) (b : BlockData) (shaped : IsShaped (termin
   comes = taken_by (is_taken keys b) refl
 
 -- the result of this block is among these
-abbrev pub ReadOutcome : SearchText → BlockData → List Searched → Type 0
+abbrev pub ReadOutcome : SearchText → BlockData → List SearchedBlock → Type 0
 ReadOutcome text b [] = ⊥
 ReadOutcome text b (r ∷ rs) = (r ≡ record { query = text; block = b }) ⊎ ReadOutcome text b rs
 
-pub all_come : (past : Past) (rs : List Searched) (b : BlockData) → IsShaped (terminator past.query) (plan past)
+pub all_come : (past : Past) (rs : List SearchedBlock) (b : BlockData) → IsShaped (terminator past.query) (plan past)
     → Contains (announced (plan past)) b → ReadOutcome past.query.text b rs
     → is_taken (taken_of past.query (arrivals rs past.events)) b ≡ true
 all_come past [] b shaped known came = absurd came
@@ -119,9 +120,9 @@ module _ {A : Type 0} where
       and_from (f (arc_value block)) (list_all f (map arc_value blocks)) (h 0 block refl)
       (all_at f blocks (λ n other at. h (suc n) other at))
 
-module _ {A C : Type 0} {view : SearchView (Arc BlockData A) C Searched} where
+module _ {A C : Type 0} {view : SearchView (Arc BlockData A) C SearchedBlock} where
   came_of : (text : SearchText) → FindsLines view text → (blocks : List (Arc BlockData A)) (n : ℕ)
-      (block : Arc BlockData A) → slice_get blocks n ≡ Some block → (rs : List Searched)
+      (block : Arc BlockData A) → slice_get blocks n ≡ Some block → (rs : List SearchedBlock)
       → HasResult view.finds blocks n rs → ReadOutcome text (arc_value block) rs
   came_of text finds blocks n block at [] h = absurd h
   came_of text finds blocks n block at (r ∷ rs) h = elim h [
@@ -135,7 +136,8 @@ module _ {A C : Type 0} {view : SearchView (Arc BlockData A) C Searched} where
       some_same e = cc
 
   -- after a round all blocks were taken
-  pub all_taken_after : (past : Past) (blocks : List (Arc BlockData A)) (taken : List BlockData) (rs : List Searched)
+  pub all_taken_after : (past : Past) (blocks : List (Arc BlockData A)) (taken : List BlockData)
+      (rs : List SearchedBlock)
       → FindsLines view past.query.text → IsShaped (terminator past.query) (plan past) → announced
       (plan past) ≡ taken ++ map arc_value blocks
       → list_all (is_taken (taken_of past.query past.events)) taken ≡ true
@@ -191,7 +193,7 @@ module _ {A Q C : Type 0} {asks : Ghosts Q A C} {engine : Engine A Q C asks} {ai
   abbrev past : Past
   past = past_of aim.query (format_of aim) h.events h.written
 
-  abbrev view : SearchView (Arc BlockData A) C Searched
+  abbrev view : SearchView (Arc BlockData A) C SearchedBlock
   view = asks.seen engine.query.now
 
   pub short_round : All view.may engine.round.items
@@ -225,7 +227,7 @@ module _ {A Q C : Type 0} {asks : Ghosts Q A C} {engine : Engine A Q C asks} {ai
       (set : engine'.setup ≡ aim.setup) (count : engine'.files ≡ opened steps) (none : waiting engine' ≡ [])
       (round : HasRound (IsAfter engine'.sequencer) view.finds engine.round.items past out.taken out'.taken)
       (calm : out'.failures ≡ out.failures) where
-    abbrev rs : List Searched
+    abbrev rs : List SearchedBlock
     rs = round.0
 
     abbrev wrote : List ℕ

@@ -20,7 +20,7 @@ use Rattle.pg_base.specs.Sink.{Stream, TakesPart, WritesAll, WritesPart}
 use Rattle.pg_base.proofs.WriteLemmas.{wrote_none}
 use Rattle.pg_plan.specs.Plan.{Step, Opens, Announces, Ends, Misses, IsShaped, is_open, entries_of, with_end}
 use Rattle.pg_plan.proofs.BeginLemmas.{begins_trans}
-use Rattle.pg_files.specs.Given.{Given, NoFile, File, FilesPast, entries_given, newest_name, nothing_given}
+use Rattle.pg_files.specs.Given.{FileOutcome, NoFile, File, FilesPast, entries_given, newest_name, nothing_given}
 use Rattle.pg_run.specs.Told.{AddsFailure, faults_of, fault_of, told_of}
 use Rattle.pg_base.specs.Causes.{fault_line}
 use Rattle.pg_run.specs.Outcome.{AreReadRightly, EndsAtSelected, RunFinishes, BreaksOff, HasCause, GotWholeLines}
@@ -47,13 +47,14 @@ use Rattle.pg_run.proofs.ReadingLemmas.{safe_by, read_cause, none_at_fault, none
 
 -- What was told.
 
-more_told : (silent : Bool) (given given' : List Given) (line : List ℕ) → faults_of given' ≡ faults_of given ++ line
+more_told : (silent : Bool) (given given' : List FileOutcome) (line : List ℕ)
+    → faults_of given' ≡ faults_of given ++ line
     → told_of silent given' ≡ told_of silent given ++ when (not silent) line
 more_told true given given' line e = refl
 more_told false given given' line e = e
 
 -- a text that was told behind what was told of what was given before
-pub told_by : (aim : Aim) (given given' : List Given) (told told' : Stream) (silent : Bool) (line : List ℕ)
+pub told_by : (aim : Aim) (given given' : List FileOutcome) (told told' : Stream) (silent : Bool) (line : List ℕ)
     → silent ≡ aim.setup.silent → AllIsTold aim given told → faults_of given' ≡ faults_of given ++ line
     → WritesAll (when (not silent) line) told told' → AllIsTold aim given' told'
 told_by aim given given' told told' silent line set t e w =
@@ -73,20 +74,20 @@ none_when true = refl
 none_when false = refl
 
 -- nothing is told of a file that goes on or ends
-pub told_same : (aim : Aim) (given given' : List Given) (told : Stream) → AllIsTold aim given told
+pub told_same : (aim : Aim) (given given' : List FileOutcome) (told : Stream) → AllIsTold aim given told
     → faults_of given' ≡ faults_of given ++ [] → AllIsTold aim given' told
 told_same aim given given' told t e =
     let silent = aim.setup.silent in
     told_by aim given given' told told silent [] refl t e
     (subst (λ xs. WritesAll xs told told) (sym (none_when (not silent))) (wrote_none told))
 
-pub told_all : (aim : Aim) (given : List Given) (told : Stream) → AllIsTold aim given told
+pub told_all : (aim : Aim) (given : List FileOutcome) (told : Stream) → AllIsTold aim given told
     → TakesPart (told_of aim.setup.silent given) aim.told.taken told.taken
 told_all aim given told t =
     let text = told_of aim.setup.silent given in
     (text, ([], append-nil text), t.all)
 
-part_told : (aim : Aim) (given given' : List Given) (told told' : Stream) (silent : Bool) (line : List ℕ)
+part_told : (aim : Aim) (given given' : List FileOutcome) (told told' : Stream) (silent : Bool) (line : List ℕ)
     → silent ≡ aim.setup.silent → AllIsTold aim given told → faults_of given' ≡ faults_of given ++ line
     → TakesPart (when (not silent) line) told.taken told'.taken
     → TakesPart (told_of aim.setup.silent given') aim.told.taken told'.taken
@@ -104,33 +105,33 @@ part_told aim given given' told told' silent line set t e part =
     )
 
 -- what was told of what was given before is a beginning of what is told of more
-part_before : (aim : Aim) (given given' : List Given) (told : Stream) (line : List ℕ) → AllIsTold aim given told
+part_before : (aim : Aim) (given given' : List FileOutcome) (told : Stream) (line : List ℕ) → AllIsTold aim given told
     → faults_of given' ≡ faults_of given ++ line → TakesPart (told_of aim.setup.silent given') aim.told.taken told.taken
 part_before aim given given' told line t e =
     part_told aim given given' told told aim.setup.silent line refl t e
     ([], (when (not aim.setup.silent) line, refl), sym (append-nil told.taken))
 
 -- only the newest changed
-faults_grow : (given given' : List Given) → drop 1 given' ≡ given
+faults_grow : (given given' : List FileOutcome) → drop 1 given' ≡ given
     → (line : List ℕ) × (faults_of given' ≡ faults_of given ++ line)
 faults_grow given [] e = ([], ap (λ gs. faults_of gs ++ []) e)
 faults_grow given (g ∷ given') e = (fault_of g, ap (λ gs. faults_of gs ++ fault_of g) e)
 
 -- a file that was left has no line
-left_untold : (given given' : List Given) (name bytes : List ℕ) (earlier : List Entry) → drop 1 given' ≡ given
+left_untold : (given given' : List FileOutcome) (name bytes : List ℕ) (earlier : List Entry) → drop 1 given' ≡ given
     → entries_given given' ≡ Read name bytes Left ∷ earlier → faults_of given' ≡ faults_of given
 left_untold given given' name bytes earlier before newest =
     newest_told given' name bytes Left earlier newest
     ∙ (append-nil (faults_of (drop 1 given')) ∙ ap faults_of before)
 
 -- a file that was read further, by whether its reading failed
-told_read : (given before given' : List Given) (failed : Bool) → GaveFile given before
+told_read : (given before given' : List FileOutcome) (failed : Bool) → GaveFile given before
     → AddsFailure before given' failed → AddsFailure given given' failed
 told_read given before given' failed new e =
     let line = when failed (fault_line (newest_name given') ReadFailed) in
     e ∙ ap (λ xs. xs ++ line) (ap faults_of new.1 ∙ append-nil (faults_of given))
 
-pub told_failed : (given before given' : List Given) (name' : List ℕ) (failed : Bool) → GaveFile given before
+pub told_failed : (given before given' : List FileOutcome) (name' : List ℕ) (failed : Bool) → GaveFile given before
     → AddsFailure before given' failed → failed ≡ true
     → name' ≡ newest_name given' → faults_of given' ≡ faults_of given ++ fault_line name' ReadFailed
 told_failed given before given' name' failed new e t named =
@@ -138,7 +139,7 @@ told_failed given before given' name' failed new e t named =
     ∙ (ap (λ b. faults_of given ++ when b (fault_line (newest_name given') ReadFailed)) t
     ∙ ap (λ n. faults_of given ++ fault_line n ReadFailed) (sym named))
 
-pub told_unfailed : (given before given' : List Given) (failed : Bool) → GaveFile given before
+pub told_unfailed : (given before given' : List FileOutcome) (failed : Bool) → GaveFile given before
     → AddsFailure before given' failed → failed ≡ false → faults_of given' ≡ faults_of given ++ []
 told_unfailed given before given' failed new e t =
     told_read given before given' failed new e
@@ -146,15 +147,15 @@ told_unfailed given before given' failed new e t =
 
 -- Why a run breaks off.
 
-stop_cause : (fault : RunFault) (aim : Aim) (given : List Given) (out told : Stream) → ReadCause fault aim given out
-    → HasCause fault aim.query aim.setup given aim.out out aim.told told
+stop_cause : (fault : RunFault) (aim : Aim) (given : List FileOutcome) (out told : Stream)
+    → ReadCause fault aim given out → HasCause fault aim.query aim.setup given aim.out out aim.told told
 stop_cause OutOfMemory aim given out told c = tt
 stop_cause Sink aim given out told c = inl c
 stop_cause TooManyFiles aim given out told c = c
 stop_cause TooLong aim given out told c = c
 
 -- the reading of a file broke off
-pub stops_reading : (aim : Aim) (given given' : List Given) (out told : Stream) (fault : RunFault)
+pub stops_reading : (aim : Aim) (given given' : List FileOutcome) (out told : Stream) (fault : RunFault)
     → BreaksOffInFile aim given' out fault → AllIsTold aim given told → drop 1 given' ≡ given
     → BreaksOffTold aim given' out told fault
 stops_reading aim given given' out told fault b t before =
@@ -172,8 +173,8 @@ stops_reading aim given given' out told fault b t before =
     }
 
 -- a line couldn't be told
-pub stops_telling : (aim : Aim) (given given' : List Given) (out told told' : Stream) (silent : Bool) (line : List ℕ)
-    → silent ≡ aim.setup.silent → IsCommonBeginning aim given' out.taken → AllIsTold aim given told
+pub stops_telling : (aim : Aim) (given given' : List FileOutcome) (out told told' : Stream) (silent : Bool)
+    (line : List ℕ) → silent ≡ aim.setup.silent → IsCommonBeginning aim given' out.taken → AllIsTold aim given told
     → faults_of given' ≡ faults_of given ++ line → WritesPart (when (not silent) line) told told'
     → BreaksOffTold aim given' out told' Sink
 stops_telling aim given given' out told told' silent line set safe t e w = record {
@@ -186,7 +187,7 @@ stops_telling aim given given' out told told' silent line set safe t e w = recor
 }
 
 -- memory is lacking
-pub stops_memory : (aim : Aim) (given : List Given) (out told : Stream) → IsCommonBeginning aim given out.taken
+pub stops_memory : (aim : Aim) (given : List FileOutcome) (out told : Stream) → IsCommonBeginning aim given out.taken
     → out.failures ≡ aim.out.failures → AllIsTold aim given told → BreaksOffTold aim given out told OutOfMemory
 stops_memory aim given out told safe calm t = record {
   cause = tt;
@@ -224,7 +225,7 @@ no_rows q format name earlier = ap (λ rows. rows_in format.mode rows [] []) (go
     go false = refl
 
 -- Between files.
-module _ {A Q C : Type 0} {asks : Ghosts Q A C} {engine : Engine A Q C asks} {aim : Aim} {given : List Given}
+module _ {A Q C : Type 0} {asks : Ghosts Q A C} {engine : Engine A Q C asks} {aim : Aim} {given : List FileOutcome}
     {out : Stream} (h : IsBetweenFiles engine aim given out) where
   pub taken_part : TakesPart (output_of aim h.steps) aim.out.taken out.taken
   taken_part = (h.holds.written, h.holds.safe, h.holds.got)
@@ -393,16 +394,16 @@ module _ {A Q C : Type 0} {asks : Ghosts Q A C} {engine : Engine A Q C asks} {ai
 
 -- a file was opened, by the name that is told of what was given
 pub file_started : {A Q C : Type 0} {asks : Ghosts Q A C} {reader : FileReader A} {engine : Engine A Q C asks}
-    {aim : Aim} {given : List Given}
-    {out : Stream} (now : List Given) (name' : List ℕ) → GaveFile given now → name' ≡ newest_name now
+    {aim : Aim} {given : List FileOutcome}
+    {out : Stream} (now : List FileOutcome) (name' : List ℕ) → GaveFile given now → name' ≡ newest_name now
     → IsInsideFile reader engine aim (File name' [] Left ∷ given) out → IsInsideFile reader engine aim now out
 file_started {reader = reader} {engine = engine} {aim = aim} {given = given} {out = out} now name' new named h =
-    let P : List Given → Type 0 = λ gs. IsInsideFile reader engine aim gs out in
+    let P : List FileOutcome → Type 0 = λ gs. IsInsideFile reader engine aim gs out in
     let same : name' ≡ new.0 = named ∙ ap newest_name new.1 in
     subst P (sym (new.1 ∙ ap (λ n. File n [] Left ∷ given) (sym same))) h
 
 -- no name was asked for behind a selected line
-pub ends_at : (aim : Aim) (given before : List Given) → drop 1 given ≡ before
+pub ends_at : (aim : Aim) (given before : List FileOutcome) → drop 1 given ≡ before
     → list_any (has_selected aim.query) (entries_given before) ≡ false
     → EndsAtSelected aim.query (entries_given given)
 ends_at aim [] before e h = tt
@@ -435,11 +436,12 @@ left_before q format (Read name bytes Ended ∷ given) left = left
 left_before q format (Read name bytes Failed ∷ given) left = left
 left_before q format (Read name bytes Left ∷ given) left = left.1
 
-entries_before : (given : List Given) → drop 1 (entries_given given) ≡ entries_given (drop 1 given)
+entries_before : (given : List FileOutcome) → drop 1 (entries_given given) ≡ entries_given (drop 1 given)
 entries_before [] = refl
 entries_before (g ∷ given) = refl
 
-pub rightly_left : (aim : Aim) (given : List Given) → AreLeftRightly aim.query (format_of aim) (entries_given given)
+pub rightly_left : (aim : Aim) (given : List FileOutcome)
+    → AreLeftRightly aim.query (format_of aim) (entries_given given)
     → AreLeftRightly aim.query (format_of aim) (entries_given (drop 1 given))
 rightly_left aim given left =
     let P : List Entry → Type 0 = λ es. AreLeftRightly aim.query (format_of aim) es in
@@ -447,17 +449,17 @@ rightly_left aim given left =
 
 -- files that were all read as far as was needed, and perhaps one more
 pub read_rightly : {A Q C : Type 0} {asks : Ghosts Q A C} {engine : Engine A Q C asks} {aim : Aim}
-    {given : List Given} {out : Stream}
+    {given : List FileOutcome} {out : Stream}
     → (b : IsBetweenFiles engine aim given out)
     → (is_quiet (format_of aim).mode ≡ true → EndsAtSelected aim.query (entries_given given))
     → (is_quiet (format_of aim).mode ≡ true → list_any (has_selected aim.query) (entries_given given) ≡ false)
-    → (given' : List Given) → GaveOneAtMost given given' → AreReadRightly aim.query aim.setup given'
+    → (given' : List FileOutcome) → GaveOneAtMost given given' → AreReadRightly aim.query aim.setup given'
 read_rightly {aim = aim} {given = given} b quiet none given' (inl e) =
     let left = covers_left aim.query (format_of aim) (entries_of b.steps) (entries_given given) (room_of b.holds)
     b.covers in
     subst (AreReadRightly aim.query aim.setup) (sym e) (record { left = rightly_left aim given left; quiet = quiet })
 read_rightly {aim = aim} {given = given} b quiet none given' (inr e) =
-    let P : List Given → Type 0 = λ gs. AreLeftRightly aim.query (format_of aim) (entries_given gs) in
+    let P : List FileOutcome → Type 0 = λ gs. AreLeftRightly aim.query (format_of aim) (entries_given gs) in
     record {
       left =
           subst P (sym e)

@@ -9,7 +9,7 @@ use Rattle.pg_base.specs.Entries.{Entry, Missed, Read, Ending, Running, Ended, F
 use Rattle.pg_rows.specs.Output.{has_selected, output, status}
 use Rattle.pg_base.specs.Sink.{Stream, TakesPart}
 use Rattle.pg_seq.specs.Settled.{AreLeftRightly}
-use Rattle.pg_files.specs.Given.{AllGiven, FilesPast, Given, entries_given, files_given}
+use Rattle.pg_files.specs.Given.{AllGiven, FilesPast, FileOutcome, entries_given, files_given}
 use Rattle.pg_reader.specs.Lengths.{IsTooLong}
 use Rattle.pg_run.specs.Told.{told_of}
 use Rattle.pg_run.specs.declared.setup.Setup.{Setup}
@@ -60,7 +60,7 @@ IsContinuation (last ∷ entries) files =
     (later : List Entry) × (other : Entry) × MayBecome last other × (files ≡ later ++ other ∷ entries)
 
 -- what happened, by the fault that says it
-abbrev pub HasCause : RunFault → Search → Setup → List Given → (out out' told told' : Stream) → Type 0
+abbrev pub HasCause : RunFault → Search → Setup → List FileOutcome → (out out' told told' : Stream) → Type 0
 HasCause OutOfMemory q setup given out out' told told' = Unit {0}
 HasCause Sink q setup given out out' told told' = (out.failures < out'.failures) ⊎ (told.failures < told'.failures)
 HasCause TooManyFiles q setup given out out' told told' = 2 ^ 32 - 1 < files_given given
@@ -93,7 +93,7 @@ NoneFailed TooLong before after = after.failures ≡ before.failures
 -- A run stopped by a fault that has its cause: its output is a beginning of that of every list of files that goes on
 -- from what was given, and the fault lines are a beginning of those of what was given. Where a file is at fault,
 -- nothing is lost of those before it, neither rows nor fault lines.
-pub record HasStopped (q : Search) (setup : Setup) (given : List Given) (out out' told told' : Stream)
+pub record HasStopped (q : Search) (setup : Setup) (given : List FileOutcome) (out out' told told' : Stream)
     (fault : RunFault) : Type 0 where
   pub cause : HasCause fault q setup given out out' told told'
   pub written : (files : List Entry) → IsContinuation (entries_given given) files →
@@ -105,11 +105,11 @@ pub record HasStopped (q : Search) (setup : Setup) (given : List Given) (out out
 
 -- Each file before the newest was read to its end, but where lines at its front were enough, and with -q no line of
 -- these was selected.
-pub record AreReadRightly (q : Search) (setup : Setup) (given : List Given) : Type 0 where
+pub record AreReadRightly (q : Search) (setup : Setup) (given : List FileOutcome) : Type 0 where
   pub left : AreLeftRightly q setup.format (entries_given (drop 1 given))
   pub quiet : is_quiet setup.format.mode ≡ true → EndsAtSelected q (entries_given given)
 
 -- it stopped, behind files that were read as far as was needed
-abbrev pub BreaksOff : Search → Setup → List Given → (out out' told told' : Stream) → RunFault → Type 0
+abbrev pub BreaksOff : Search → Setup → List FileOutcome → (out out' told told' : Stream) → RunFault → Type 0
 BreaksOff q setup given out out' told told' fault =
     HasStopped q setup given out out' told told' fault × AreReadRightly q setup given

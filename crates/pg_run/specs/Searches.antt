@@ -6,7 +6,7 @@ use mathlib.Core.HLevel.{Π_prop}
 use Rattle.pg_blocks.specs.Blocks.{BlockData}
 use Rattle.pg_blocks.specs.Lines.{AreShort}
 use Rattle.pg_selection.specs.Search.{SearchText, terminator_of}
-use Rattle.pg_selection.specs.Searched.{Searched}
+use Rattle.pg_selection.specs.Searched.{SearchedBlock}
 use Rattle.pg_workers.specs.Searches.{SearchView}
 
 module _ {A : Type 0} where
@@ -15,14 +15,14 @@ module _ {A : Type 0} where
   HasShortLines text block = AreShort (terminator_of text) (arc_value block).bytes
 
   -- the result of the block
-  abbrev pub IsFoundIn : SearchText → Arc BlockData A → Searched → Type 0
+  abbrev pub IsFoundIn : SearchText → Arc BlockData A → SearchedBlock → Type 0
   IsFoundIn text block r = r ≡ record { query = text; block = arc_value block }
 
-module _ {A C : Type 0} (view : SearchView (Arc BlockData A) C Searched) where
+module _ {A C : Type 0} (view : SearchView (Arc BlockData A) C SearchedBlock) where
   -- Blocks with short lines may be searched, and what is found is the result for this text.
   pub record FindsLines (text : SearchText) : Type 0 where
     pub may : (block : Arc BlockData A) → HasShortLines text block → view.may block
-    pub finds : (block : Arc BlockData A) (found : Searched) → view.finds block found → IsFoundIn text block found
+    pub finds : (block : Arc BlockData A) (found : SearchedBlock) → view.finds block found → IsFoundIn text block found
 
   -- at most so many scratches, each of which was made for this search
   abbrev pub AreScratches : ℕ → List C → Type 0

@@ -1,7 +1,7 @@
 //! Reads one file, as far as that is needed.
 ghost use Rattle.std.specs.Prelude.{◌≡◌, List, IfOk, MatchResult, OnOk};
 ghost use Rattle.pg_blocks.specs.Cutter.{IsDrained};
-ghost use Rattle.pg_files.specs.Given.{Given};
+ghost use Rattle.pg_files.specs.Given.{FileOutcome};
 ghost use Rattle.pg_base.specs.Sink.{Stream};
 ghost use Rattle.pg_run.specs.Told.{AddsFailure};
 ghost use Rattle.pg_run.specs.Holding.{Aim, HasRoomInRound};
@@ -101,7 +101,7 @@ fn search_lines<
     requires in_file { IsReadingSomeFile reader.old engine.old (W.stream out.old) }
     ensures came { reader.new.came ≡ reader.old.came }
     ensures drained { IsDrained reader.new.cutter }
-    ensures outcome { (given : List Given) → StaysInFile reader.old reader.new engine.old engine.new
+    ensures outcome { (given : List FileOutcome) → StaysInFile reader.old reader.new engine.old engine.new
         given given (W.stream out.old) (W.stream out.new) result }
 {
     engine.make_room(rt, out)?;
@@ -138,7 +138,7 @@ fn settle<
 ) -> Result<(), RunFault>
     requires in_file { IsReadingSomeFile reader.old engine.old (W.stream out.old) }
     ensures came { reader.new.came ≡ reader.old.came }
-    ensures outcome { (given : List Given) → StaysInFile reader.old reader.new engine.old engine.new
+    ensures outcome { (given : List FileOutcome) → StaysInFile reader.old reader.new engine.old engine.new
         given given (W.stream out.old) (W.stream out.new) result }
 {
     if engine.enough() || !is_due(reader, engine, files) {
@@ -157,7 +157,7 @@ fn recycle<A: Allocator + Copy, Q: BlockSearch<Alloc = A>>(
     engine: &mut Engine<'_, A, Q>,
 )
     ensures came { reader.new.came ≡ reader.old.came }
-    ensures in_file { (aim : Aim) → (given : List Given) → (out : Stream) →
+    ensures in_file { (aim : Aim) → (given : List FileOutcome) → (out : Stream) →
         IsInsideFile reader.old engine.old aim given out → IsInsideFile reader.new engine.new aim given out }
 {
     reader.give_back(engine.take_spare());
@@ -200,7 +200,7 @@ fn search_last<R: Clock, A: Allocator + Copy, Q: BlockSearch<Alloc = A>, W: Sink
     out: &mut W,
 ) -> Result<(), RunFault>
     requires last { IsAtLastBlock reader.old engine.old failed (W.stream out.old) }
-    ensures { (aim : Aim) → (given : List Given) →
+    ensures { (aim : Aim) → (given : List FileOutcome) →
         IsInsideFile reader.old engine.old aim given (W.stream out.old) →
         MatchResult result (λ _. MayEndFile engine.new aim failed given (W.stream out.new))
         (BreaksOffInFile aim given (W.stream out.new)) }
@@ -220,9 +220,10 @@ fn end_file<
     Q: BlockSearch<Alloc = A, Scratch: Send> + Sync,
     W: Sink,
 >(rt: &R, engine: &mut Engine<'_, A, Q>, failed: bool, out: &mut W) -> Result<bool, RunFault>
-    requires may_end { (aim : Aim) × (given : List Given) × MayEndFile engine.old aim failed given (W.stream out.old) }
+    requires may_end { (aim : Aim) × (given : List FileOutcome) × MayEndFile engine.old aim failed given
+        (W.stream out.old) }
     ensures failed { IfOk result (λ answer. answer ≡ failed) }
-    ensures outcome { (aim : Aim) → (given : List Given) →
+    ensures outcome { (aim : Aim) → (given : List FileOutcome) →
         MayEndFile engine.old aim failed given (W.stream out.old) →
         EndsFile engine.new aim given (W.stream out.new) result }
 {
@@ -249,7 +250,7 @@ fn finish_file<
 ) -> Result<bool, RunFault>
     requires last { IsAtLastBlock reader.old engine.old failed (W.stream out.old) }
     ensures failed { IfOk result (λ answer. answer ≡ failed) }
-    ensures outcome { (aim : Aim) → (given : List Given) →
+    ensures outcome { (aim : Aim) → (given : List FileOutcome) →
         IsInsideFile reader.old engine.old aim given (W.stream out.old) →
         EndsFile engine.new aim given (W.stream out.new) result }
 {

@@ -6,7 +6,7 @@ ghost use Rattle.pg_selection.specs.Search.{Search};
 ghost use Rattle.pg_base.specs.Entries.{Left};
 ghost use Rattle.pg_rows.specs.Output.{when};
 ghost use Rattle.pg_base.specs.Sink.{Stream, WritesText};
-ghost use Rattle.pg_files.specs.Given.{Given, NoFile, File, nothing_given};
+ghost use Rattle.pg_files.specs.Given.{FileOutcome, NoFile, File, nothing_given};
 ghost use Rattle.pg_base.specs.Causes.{fault_line};
 ghost use Rattle.pg_run.specs.Outcome.{IsSearchFor, RunFinishes, BreaksOff};
 ghost use Rattle.pg_run.specs.Searches.{FindsLines};
@@ -69,8 +69,8 @@ fn miss<
     out: &mut W,
     faults: &mut E,
 ) -> Result<(), RunFault>
-    requires { (given : List Given) × HasToldSome engine.old given (W.stream out.old) (E.stream faults.old) }
-    ensures { (given : List Given) → TellsOn engine.old engine.new given (NoFile name.now cause ∷ given)
+    requires { (given : List FileOutcome) × HasToldSome engine.old given (W.stream out.old) (E.stream faults.old) }
+    ensures { (given : List FileOutcome) → TellsOn engine.old engine.new given (NoFile name.now cause ∷ given)
         (W.stream out.old) (W.stream out.new) (E.stream faults.old) (E.stream faults.new) result }
 {
     let tells = !engine.setup.silent;
@@ -87,9 +87,10 @@ fn open_file<A: Allocator + Copy, Q: BlockSearch<Alloc = A>>(
     name: &[u8],
 ) -> Result<(), AllocError>
     requires few { engine.old.files < 2 ^ 32 - 1 }
-    requires between { (aim : Aim) × (given : List Given) × (out : Stream) × IsBetweenFiles engine.old aim given out }
+    requires between { (aim : Aim) × (given : List FileOutcome) × (out : Stream)
+        × IsBetweenFiles engine.old aim given out }
     ensures awaits { OnOk result (AwaitsMore reader.new) }
-    ensures ok { (aim : Aim) → (given : List Given) → (out : Stream) → IsBetweenFiles engine.old aim given out →
+    ensures ok { (aim : Aim) → (given : List FileOutcome) → (out : Stream) → IsBetweenFiles engine.old aim given out →
         OnOk result (IsInsideFile reader.new engine.new aim (File name.now [] Left ∷ given) out) }
 {
     let cutter = engine.open(name)?;
@@ -113,10 +114,10 @@ fn one_file<
     out: &mut W,
     faults: &mut E,
 ) -> Result<(), RunFault>
-    requires rests { (given : List Given) × GaveFile given (F.past files.old).given
+    requires rests { (given : List FileOutcome) × GaveFile given (F.past files.old).given
         × HasToldSome engine.old given (W.stream out.old) (E.stream faults.old) }
     ensures reads_on { OnlyReadsOn F.past F.list files.old files.new }
-    ensures outcome { (given : List Given) → GaveFile given (F.past files.old).given →
+    ensures outcome { (given : List FileOutcome) → GaveFile given (F.past files.old).given →
         TellsOn engine.old engine.new given (F.past files.new).given
         (W.stream out.old) (W.stream out.new) (E.stream faults.old) (E.stream faults.new) result }
 {

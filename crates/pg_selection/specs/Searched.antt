@@ -8,12 +8,12 @@ use Rattle.pg_selection.specs.declared.run.Found.{Found}
 use Rattle.pg_blocks.specs.Blocks.{BlockData}
 
 -- which query was asked of which block
-pub record Searched : Type 0 where
+pub record SearchedBlock : Type 0 where
   pub query : SearchText
   pub block : BlockData
 
 -- the lines of the block
-abbrev pub lines_of : Searched → List (List ℕ)
+abbrev pub lines_of : SearchedBlock → List (List ℕ)
 lines_of r = lines (terminator_of r.query) r.block.bytes
 
 -- all that a search has to find in some bytes: the selected lines, their parts where the text asks for them, and

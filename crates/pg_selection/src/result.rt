@@ -22,9 +22,9 @@ pub struct BlockResult<A: Allocator = Global> {
 
 impl<A: Allocator> Model for BlockResult<A> {
     ghost use Rattle.std.specs.Arc.{arc_value};
-    ghost use Rattle.pg_selection.specs.Searched.{Searched, IsFound};
+    ghost use Rattle.pg_selection.specs.Searched.{SearchedBlock, IsFound};
 
-    ghost Value = { Searched };
+    ghost Value = { SearchedBlock };
 
     ghost view = { λ r. record { query = arc_value r.selector; block = arc_value r.block } };
 

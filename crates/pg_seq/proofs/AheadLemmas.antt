@@ -9,7 +9,7 @@ use Rattle.std.proofs.lemmas.List.{length-map, length-drop, map-append, drop-map
 use Rattle.std.proofs.lemmas.List.Folds.{list_any-append}
 use Rattle.pg_selection.specs.Search.{Search, terminator, terminator_of}
 use Rattle.pg_blocks.specs.Lines.{lines}
-use Rattle.pg_selection.specs.Searched.{Searched, lines_of}
+use Rattle.pg_selection.specs.Searched.{SearchedBlock, lines_of}
 use Rattle.pg_blocks.specs.Blocks.{BlockData}
 use Rattle.pg_selection.specs.Runs.{AreRuns, HasRuns}
 use Rattle.pg_selection.specs.declared.run.Run.{Run}
@@ -19,7 +19,7 @@ use Rattle.pg_rows.specs.Output.{has_selected, output}
 use Rattle.pg_rows.specs.Enough.{trail_suffices, is_enough}
 use Rattle.pg_rows.specs.Cursor.{Cursor}
 use Rattle.pg_rows.specs.Progress.{IsOfTrail, TellsNone, TellsBlock}
-use Rattle.pg_seq.specs.declared.ahead.Ahead.{Ahead}
+use Rattle.pg_seq.specs.declared.ahead.Lookahead.{Lookahead}
 use Rattle.pg_seq.specs.declared.opening.Opening.{Opening}
 use Rattle.pg_seq.specs.declared.slot.Slot.{Slot}
 use Rattle.pg_seq.specs.declared.reorder_buffer.ReorderBuffer.{ReorderBuffer}
@@ -61,7 +61,7 @@ module _ {A : Type 0} (s : Assembler A) (past : Past) (h : IsAfter s past) where
   gone_results (x ∷ gone) later are = (are.0, gone_results gone later are.1)
 
   -- what was handed out is so far
-  pub at_first : (a : Ahead) → a.blocks ≡ 0 → a.files ≡ 0 → a.inside ≡ s.printing → a.progress ≡ s.printer.progress
+  pub at_first : (a : Lookahead) → a.blocks ≡ 0 → a.files ≡ 0 → a.inside ≡ s.printing → a.progress ≡ s.printer.progress
       → a.selected ≡ s.buffer.selected → HasLookedAhead s past a
   at_first a blocks files inside progress selected =
       let n : s.buffer.handed ≡ s.buffer.handed + a.blocks = omega (arith, blocks) in
@@ -81,7 +81,7 @@ module _ {A : Type 0} (s : Assembler A) (past : Past) (h : IsAfter s past) where
             ∙ (sym h.selected ∙ sym selected));
       }
 
-module _ {A : Type 0} (s : Assembler A) (past : Past) (h : IsAfter s past) (a : Ahead) (i : HasLookedAhead s past a)
+module _ {A : Type 0} (s : Assembler A) (past : Past) (h : IsAfter s past) (a : Lookahead) (i : HasLookedAhead s past a)
   where
     abbrev q : Search
     q = past.query
@@ -179,7 +179,7 @@ module _ {A : Type 0} (s : Assembler A) (past : Past) (h : IsAfter s past) (a : 
 
     -- the next file is opened
     pub file_next : (next : Opening A) (rest : List (Opening A)) → a.inside ≡ false
-        → drop a.files s.waiting.items ≡ next ∷ rest → (b : Ahead) → b.blocks ≡ a.blocks → b.files ≡ a.files + 1
+        → drop a.files s.waiting.items ≡ next ∷ rest → (b : Lookahead) → b.blocks ≡ a.blocks → b.files ≡ a.files + 1
         → b.inside ≡ true → TellsNone b.progress → b.selected ≡ a.selected → HasLookedAhead s past b
     file_next next rest outside waits b blocks files inside progress selected =
         elim (next_file q past.format (terminator q) total done coming (i.inside ∙ outside) shaped) [
@@ -207,7 +207,7 @@ module _ {A : Type 0} (s : Assembler A) (past : Past) (h : IsAfter s past) (a : 
         ]
 
     -- the file's end is passed
-    pub end_next : a.inside ≡ true → is_over s a ≡ true → (b : Ahead) → b.blocks ≡ a.blocks → b.files ≡ a.files
+    pub end_next : a.inside ≡ true → is_over s a ≡ true → (b : Lookahead) → b.blocks ≡ a.blocks → b.files ≡ a.files
         → b.inside ≡ false → b.progress ≡ a.progress → b.selected ≡ a.selected → HasLookedAhead s past b
     end_next inside over b blocks files outside progress selected = go (next_is inside)
       where
@@ -268,7 +268,7 @@ module _ {A : Type 0} (s : Assembler A) (past : Past) (h : IsAfter s past) (a : 
         go (Block b later e none) = at_slot b later e (drop a.blocks s.buffer.slots.items) refl
 
     -- the next block, whose result has come
-    pub record HasBlock (found : Searched) : Type 0 where
+    pub record HasBlock (found : SearchedBlock) : Type 0 where
       pub block : BlockData
       pub later : List Step
       pub is : coming ≡ Announces block ∷ later
@@ -276,7 +276,7 @@ module _ {A : Type 0} (s : Assembler A) (past : Past) (h : IsAfter s past) (a : 
       pub query : found.query ≡ q.text
       pub same : found.block ≡ block
 
-    pub block_of : (found : Searched) → a.inside ≡ true → is_over s a ≡ false → HasResult s.buffer a.blocks found
+    pub block_of : (found : SearchedBlock) → a.inside ≡ true → is_over s a ≡ false → HasResult s.buffer a.blocks found
         → HasBlock found
     block_of found inside over r = go (next_is inside)
       where
@@ -305,7 +305,7 @@ module _ {A : Type 0} (s : Assembler A) (past : Past) (h : IsAfter s past) (a : 
 
         is : (found.query ≡ q.text) × (found.block ≡ slot_block r.slot)
         is =
-            let P : Option Searched → Type 0 =
+            let P : Option SearchedBlock → Type 0 =
             λ o. IfSome o (λ x. (x.query ≡ q.text) × (x.block ≡ slot_block r.slot)) in
             subst P r.result result
 
@@ -325,7 +325,7 @@ module _ {A : Type 0} (s : Assembler A) (past : Past) (h : IsAfter s past) (a : 
         }
 
     -- the numbers of lines are small
-    pub block_fits : (found : Searched) → HasBlock found → a.progress.number + length (lines_of found) < 2 ^ 63
+    pub block_fits : (found : SearchedBlock) → HasBlock found → a.progress.number + length (lines_of found) < 2 ^ 63
     block_fits found b =
         let P : List Step → Type 0 = λ p. IsPlan (terminator q) p in
         let lawful : IsPlan (terminator q) (Announces b.block ∷ done) =
@@ -340,8 +340,8 @@ module _ {A : Type 0} (s : Assembler A) (past : Past) (h : IsAfter s past) (a : 
         )
 
     -- the block is passed
-    pub block_next : (found : Searched) (w : HasBlock found) (runs : List Run) (n : ℕ)
-        → HasRuns found.query found.block.bytes runs → n ≡ length (lines_of found) → (b : Ahead)
+    pub block_next : (found : SearchedBlock) (w : HasBlock found) (runs : List Run) (n : ℕ)
+        → HasRuns found.query found.block.bytes runs → n ≡ length (lines_of found) → (b : Lookahead)
         → b.blocks ≡ a.blocks + 1 → b.files ≡ a.files → b.inside ≡ a.inside
         → TellsBlock a.progress past.format runs n b.progress → b.selected ≡ (a.selected || not (length runs == 0))
         → HasLookedAhead s past b
@@ -371,7 +371,7 @@ module _ {A : Type 0} (s : Assembler A) (past : Past) (h : IsAfter s past) (a : 
         }
 
 -- whether enough was read, by what is told of the front
-pub front_enough : {A : Type 0} (s : Assembler A) (past : Past) → IsAfter s past → (a : Ahead) → IsAtFront past a
+pub front_enough : {A : Type 0} (s : Assembler A) (past : Past) → IsAfter s past → (a : Lookahead) → IsAtFront past a
     → is_enough_by past.format a (cursor_of past.query past.format (front_of past)).trail
     ≡ is_enough past.query past.format (entries_of (front_of past))
 unfolding front_after
@@ -388,6 +388,6 @@ front_enough s past h a f =
     ∙ sym (suffices_by_cursor q format h.room (front_of past) lawful))
 
 -- a block whose result has come is held
-pub result_within : {A : Type 0} (buffer : ReorderBuffer A) (count : ℕ) (found : Searched)
+pub result_within : {A : Type 0} (buffer : ReorderBuffer A) (count : ℕ) (found : SearchedBlock)
     → HasResult buffer count found → count < length buffer.slots.items
 result_within buffer count found h = omega (arith, length-drop count buffer.slots.items, ap length h.slots)

@@ -8,7 +8,7 @@ use Rattle.std.proofs.lemmas.Bool.{false≢true, eq-eqb}
 use Rattle.std.proofs.lemmas.Option.{slice_get_read}
 use Rattle.std.proofs.lemmas.Slice.Eq.{bytes_eq-Decides}
 use Rattle.pg_selection.specs.Search.{Search}
-use Rattle.pg_selection.specs.Searched.{Searched}
+use Rattle.pg_selection.specs.Searched.{SearchedBlock}
 use Rattle.pg_blocks.specs.Blocks.{BlockData}
 use Rattle.pg_plan.specs.declared.answers.Arrival.TheVariants.{Taken, Double, Stranger}
 use Rattle.pg_seq.specs.declared.slot.Slot.{Slot}
@@ -87,7 +87,7 @@ module _ {A : Type 0} where
       let more : suc (length gone + k) ≡ n = omega (arith, e) in
       slot_behind gone slots k (length gone + k) slot refl below is ∙ ap (slice_get (x ∷ (gone ++ slots))) more
 
-  pub with_set : (slots : List (Slot A)) (k : ℕ) (slot : Slot A) (r : Searched) → k < length slots
+  pub with_set : (slots : List (Slot A)) (k : ℕ) (slot : Slot A) (r : SearchedBlock) → k < length slots
       → slot ≡ get_or slots k slot → set slots k (record { block = slot.block; result = Some r })
       ≡ with_result slots k r
   with_set [] k slot r below e = absurd (omega arith)
@@ -95,13 +95,13 @@ module _ {A : Type 0} where
       ap (λ (y : Slot A). let z : Slot A = record { block = y.block; result = Some r } in z ∷ slots) e
   with_set (x ∷ slots) (suc k) slot r below e = ap (λ ys. x ∷ ys) (with_set slots k slot r (omega arith) e)
 
-  pub with_past : (slots : List (Slot A)) (k : ℕ) (r : Searched) → length slots ≤ k → slots ≡ with_result slots k r
+  pub with_past : (slots : List (Slot A)) (k : ℕ) (r : SearchedBlock) → length slots ≤ k → slots ≡ with_result slots k r
   with_past [] k r past = refl
   with_past (x ∷ slots) zero r past = absurd (omega arith)
   with_past (x ∷ slots) (suc k) r past = ap (λ ys. x ∷ ys) (with_past slots k r (omega arith))
 
   -- the same behind slots that were given up
-  pub with_behind : (gone slots : List (Slot A)) (k n : ℕ) (slot : Slot A) (r : Searched) → n ≡ length gone + k
+  pub with_behind : (gone slots : List (Slot A)) (k n : ℕ) (slot : Slot A) (r : SearchedBlock) → n ≡ length gone + k
       → k < length slots → slot ≡ get_or slots k slot
       → gone ++ set slots k (record { block = slot.block; result = Some r }) ≡ with_result (gone ++ slots) n r
   with_behind [] slots k n slot r e below is = with_set slots k slot r below is
@@ -148,7 +148,7 @@ module _ {A : Type 0} where
   block_at (x ∷ slots) zero slot e = ap (λ y. Some (slot_block y)) (some_same e)
   block_at (x ∷ slots) (suc k) slot e = block_at slots k slot e
 
-  pub same_blocks : (slots : List (Slot A)) (k : ℕ) (r : Searched)
+  pub same_blocks : (slots : List (Slot A)) (k : ℕ) (r : SearchedBlock)
       → map slot_block (with_result slots k r) ≡ map slot_block slots
   same_blocks [] k r = refl
   same_blocks (x ∷ slots) zero r = refl
@@ -163,7 +163,7 @@ module _ {A : Type 0} where
       absurd (false≢true (sym none ∙ (sym (ap has_result (some_same e)) ∙ h.0)))
   held_back (x ∷ gone) slots (suc k) slot h e none = let ih = held_back gone slots k slot h.1 e none in omega arith
 
-  pub results_with : (q : Search) (slots : List (Slot A)) (k : ℕ) (slot : Slot A) (r : Searched)
+  pub results_with : (q : Search) (slots : List (Slot A)) (k : ℕ) (slot : Slot A) (r : SearchedBlock)
       → slice_get slots k ≡ Some slot → r.query ≡ q.text → r.block ≡ slot_block slot
       → AllByRecursion (IsResultOf q) slots → AllByRecursion (IsResultOf q) (with_result slots k r)
   results_with q [] k slot r e a b h = tt
@@ -193,7 +193,7 @@ module _ {A : Type 0} where
   apart_at b (x ∷ slots) (suc k) slot h e = apart_at b slots k slot h.1 e
 
   -- the marks of the blocks after one more is taken
-  pub taken_one : (keys : List (ℕ × ℕ)) (slots : List (Slot A)) (k : ℕ) (slot : Slot A) (r : Searched)
+  pub taken_one : (keys : List (ℕ × ℕ)) (slots : List (Slot A)) (k : ℕ) (slot : Slot A) (r : SearchedBlock)
       → map (is_taken keys) (map slot_block slots) ≡ map has_result slots → AreApart (map slot_block slots)
       → slice_get slots k ≡ Some slot
       → map (is_taken (((slot_block slot).file, (slot_block slot).number) ∷ keys)) (map slot_block slots)

@@ -8,7 +8,7 @@ use Rattle.std.proofs.lemmas.List.{length_push}
 use Rattle.std.proofs.lemmas.List.Folds.{list_any-append}
 use Rattle.pg_selection.specs.Search.{Search, terminator, terminator_of}
 use Rattle.pg_blocks.specs.Lines.{lines}
-use Rattle.pg_selection.specs.Searched.{Searched, lines_of}
+use Rattle.pg_selection.specs.Searched.{SearchedBlock, lines_of}
 use Rattle.pg_blocks.specs.Blocks.{BlockData}
 use Rattle.pg_blocks.proofs.CountLemmas.{few_lines}
 use Rattle.pg_rows.specs.declared.format.Format.{Format}
@@ -352,15 +352,15 @@ module _ {A : Type 0} (s : Assembler A) (past : Past) (h : IsAfter s past) where
       all_later (y ∷ gone) x xs r = all_later gone x xs r.1
 
   -- the result is the query's, and the block's
-  pub result_is : (slot : Slot A) (rest : List (Slot A)) (found : Searched) → s.buffer.slots.items ≡ slot ∷ rest
+  pub result_is : (slot : Slot A) (rest : List (Slot A)) (found : SearchedBlock) → s.buffer.slots.items ≡ slot ∷ rest
       → slot.result ≡ Some found → (found.query ≡ q.text) × (found.block ≡ slot_block slot)
   result_is slot rest found e is =
-      let P : Option Searched → Type 0 = λ o. IfSome o (λ r. (r.query ≡ q.text) × (r.block ≡ slot_block slot)) in
+      let P : Option SearchedBlock → Type 0 = λ o. IfSome o (λ r. (r.query ≡ q.text) × (r.block ≡ slot_block slot)) in
       subst P is (first_is slot rest e)
 
   -- the numbers of lines are small
-  pub lines_fit : (slot : Slot A) (rest : List (Slot A)) (found : Searched) → s.printing ≡ true → is_at_end s ≡ false
-      → s.buffer.slots.items ≡ slot ∷ rest → slot.result ≡ Some found
+  pub lines_fit : (slot : Slot A) (rest : List (Slot A)) (found : SearchedBlock) → s.printing ≡ true
+      → is_at_end s ≡ false → s.buffer.slots.items ≡ slot ∷ rest → slot.result ≡ Some found
       → here.trail.number + length (lines_of found) < 2 ^ 63
   lines_fit slot rest found printing over e is =
       let n = block_next slot rest printing over e in
@@ -377,8 +377,8 @@ module _ {A : Type 0} (s : Assembler A) (past : Past) (h : IsAfter s past) where
         ap (λ b. length (lines (terminator q) b.bytes)) r.1,
       )
 
-  pub bytes_fit : (slot : Slot A) (rest : List (Slot A)) (found : Searched) → s.printing ≡ true → is_at_end s ≡ false
-      → s.buffer.slots.items ≡ slot ∷ rest → slot.result ≡ Some found
+  pub bytes_fit : (slot : Slot A) (rest : List (Slot A)) (found : SearchedBlock) → s.printing ≡ true
+      → is_at_end s ≡ false → s.buffer.slots.items ≡ slot ∷ rest → slot.result ≡ Some found
       → here.trail.offset + length found.block.bytes < 2 ^ 63
   bytes_fit slot rest found printing over e is =
       let n = block_next slot rest printing over e in
@@ -394,7 +394,8 @@ module _ {A : Type 0} (s : Assembler A) (past : Past) (h : IsAfter s past) where
       )
 
   -- the rows were written, and the printer stands behind the block
-  pub printed_next : (new : Assembler A) (slot : Slot A) (found : Searched) → s.printing ≡ true → is_at_end s ≡ false
+  pub printed_next : (new : Assembler A) (slot : Slot A) (found : SearchedBlock) → s.printing ≡ true
+      → is_at_end s ≡ false
       → s.failed ≡ false → slot.result ≡ Some found → HandsOut slot s.buffer new.buffer → IsAlike s new
       → new.printing ≡ s.printing → new.waiting.items ≡ s.waiting.items → new.failed ≡ s.failed
       → IsAtCursor new.printer q past.format (behind_block q past.format here (slot_block slot).bytes)
@@ -450,7 +451,7 @@ module _ {A : Type 0} (s : Assembler A) (past : Past) (h : IsAfter s past) where
           ∙ sym (list_any-append (slot_selects q) gone (x ∷ []))
 
   -- a part of the rows was written
-  pub block_part : (found : Searched) → (p : HasResult s.buffer 0 found) → s.printing ≡ true → is_at_end s ≡ false
+  pub block_part : (found : SearchedBlock) → (p : HasResult s.buffer 0 found) → s.printing ≡ true → is_at_end s ≡ false
       → s.failed ≡ false → (before after : List ℕ)
       → (t : TakesPart (shown_rows q past.format here found.block.bytes) before after)
       → IsBeginning (past.written ++ t.0) (handed past)

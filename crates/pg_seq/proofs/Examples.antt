@@ -7,7 +7,7 @@ use Rattle.pg_pattern.specs.Parts.{parts_from}
 use Rattle.pg_selection.specs.Search.{SearchText, Search, Split, Fixed, search_of}
 use Rattle.std.specs.Fmt.{digits}
 use Rattle.pg_blocks.specs.Blocks.{BlockData}
-use Rattle.pg_selection.specs.Searched.{Searched}
+use Rattle.pg_selection.specs.Searched.{SearchedBlock}
 use Rattle.pg_selection.specs.Same.{same_text}
 use Rattle.pg_plan.specs.Plan.{Opens, Announces, Ends}
 use Rattle.pg_plan.specs.History.{Event, Planned, Arrived, answer_after, handed_after, front_after}
@@ -215,7 +215,7 @@ missed_row = refl
 abbrev block : ℕ → List ℕ → BlockData
 block number bytes = record { file = 0; number = number; bytes = bytes }
 
-abbrev result : ℕ → ℕ → List ℕ → Searched
+abbrev result : ℕ → ℕ → List ℕ → SearchedBlock
 result b number bytes = record { query = text_of b; block = block number bytes }
 
 abbrev announced_three : List Event

@@ -4,7 +4,7 @@ use Rattle.std.proofs.Common.{List, length, drop, get_or, sym, ap, ◌∙◌, ar
 use Rattle.std.proofs.lemmas.Bool.{cases_lt, false≢true}
 use Rattle.std.proofs.lemmas.Bool.Decides.{nat_tests}
 use Rattle.std.proofs.lemmas.List.{drop_more, drop_all}
-use Rattle.pg_seq.specs.declared.ahead.Ahead.{Ahead}
+use Rattle.pg_seq.specs.declared.ahead.Lookahead.{Lookahead}
 use Rattle.pg_seq.specs.declared.assembler.Assembler.{Assembler}
 use Rattle.pg_seq.specs.declared.opening.Opening.{Opening}
 use Rattle.pg_seq.specs.Standing.{is_last_block}
@@ -36,14 +36,14 @@ module _ {A : Type 0} where
       sym (ap (λ xs. is_last_block xs more held count) (drop_all k waiting past))
 
   -- the same of what could be done
-  pub over_before : (s : Assembler A) (a : Ahead) (next : Opening A) (handed : ℕ) → handed ≡ s.buffer.handed
+  pub over_before : (s : Assembler A) (a : Lookahead) (next : Opening A) (handed : ℕ) → handed ≡ s.buffer.handed
       → a.files < length s.waiting.items → next ≡ get_or s.waiting.items a.files next
       → eqb next.start (handed + a.blocks) ≡ is_over s a
   over_before s a next handed e below is =
       ap (λ n. eqb next.start (n + a.blocks)) e
       ∙ last_before s.waiting.items a.files next s.running (length s.buffer.slots.items - a.blocks) _ below is
 
-  pub over_at_last : (s : Assembler A) (a : Ahead) (held : ℕ) → held ≡ length s.buffer.slots.items
+  pub over_at_last : (s : Assembler A) (a : Lookahead) (held : ℕ) → held ≡ length s.buffer.slots.items
       → s.running ≡ false → length s.waiting.items ≤ a.files → leb held a.blocks ≡ is_over s a
   over_at_last s a held e ended past =
       let left = length s.buffer.slots.items - a.blocks in
@@ -52,7 +52,7 @@ module _ {A : Type 0} where
       ∙ (sym (ap (λ b. not b && eqb left 0) ended)
       ∙ last_of_all s.waiting.items a.files s.running left (s.buffer.handed + a.blocks) past))
 
-  pub not_over : (s : Assembler A) (a : Ahead) → s.running ≡ true → length s.waiting.items ≤ a.files
+  pub not_over : (s : Assembler A) (a : Lookahead) → s.running ≡ true → length s.waiting.items ≤ a.files
       → not s.running ≡ is_over s a
   not_over s a runs past =
       let left = length s.buffer.slots.items - a.blocks in

@@ -5,7 +5,7 @@ use Rattle.std.specs.Bool.{MatchBool}
 use Rattle.std.proofs.lemmas.Bool.{or_right}
 use Rattle.std.specs.List.{list_all, list_any, AllByRecursion, AllWithin, HoldsAt}
 use Rattle.pg_selection.specs.Search.{Search}
-use Rattle.pg_selection.specs.Searched.{Searched}
+use Rattle.pg_selection.specs.Searched.{SearchedBlock}
 use Rattle.pg_seq.specs.declared.slot.Slot.{Slot}
 use Rattle.pg_seq.specs.Slots.{has_result, slot_block, slot_selects, IsResultOf}
 
@@ -27,10 +27,10 @@ module _ {A : Type 0} where
       ∙ all_behind gone slots h.1
 
   -- a result of the query has its text
-  pub query_of : (slot : Slot A) (r : Searched) (q : Search) → IsResultOf q slot → slot.result ≡ Some r
+  pub query_of : (slot : Slot A) (r : SearchedBlock) (q : Search) → IsResultOf q slot → slot.result ≡ Some r
       → r.query ≡ q.text
   query_of slot r q h e =
-      let P : Option Searched → Type 0 = λ o. IfSome o (λ x. (x.query ≡ q.text) × (x.block ≡ slot_block slot)) in
+      let P : Option SearchedBlock → Type 0 = λ o. IfSome o (λ x. (x.query ≡ q.text) × (x.block ≡ slot_block slot)) in
       (subst P e h).0
 
   -- what `any` answers of slots whose results are the query's

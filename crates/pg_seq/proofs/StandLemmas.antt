@@ -11,7 +11,7 @@ use Rattle.pg_selection.specs.Search.{Search, HasItsTrees, terminator}
 use Rattle.pg_blocks.specs.Lines.{lines}
 use Rattle.pg_selection.specs.Selection.{selects}
 use Rattle.pg_selection.specs.Same.{same_text, text_equal}
-use Rattle.pg_selection.specs.Searched.{Searched}
+use Rattle.pg_selection.specs.Searched.{SearchedBlock}
 use Rattle.pg_blocks.specs.Blocks.{BlockData, joined}
 use Rattle.pg_blocks.proofs.LineLemmas.{lines-append}
 use Rattle.pg_plan.specs.declared.answers.Arrival.{Arrival}
@@ -103,12 +103,13 @@ selected_entries q format room (Announces b ∷ p) lawful =
     turn false false false = refl
 
 -- the same by the slots, where all are ready
-pub slot_selected : (q : Search) (b : BlockData) (o : Option Searched) → is_some o ≡ true
+pub slot_selected : (q : Search) (b : BlockData) (o : Option SearchedBlock) → is_some o ≡ true
     → IfSome o (λ r. (r.query ≡ q.text) × (r.block ≡ b)) → block_selects q b ≡ result_selects q o
 slot_selected q b None e h = absurd (false≢true e)
 slot_selected q b (Some r) e h = ap (block_selects q) (sym h.1)
 
-pub answer_other : (past : Past) (r : Searched) → same_text past.query.text r.query ≡ false → Stranger ≡ answer past r
+pub answer_other : (past : Past) (r : SearchedBlock) → same_text past.query.text r.query ≡ false
+    → Stranger ≡ answer past r
 unfolding answer_after
 answer_other past r e =
     let known = find (is_block r.block.file r.block.number) (announced (plan past)) in
@@ -407,7 +408,7 @@ module _ {A : Type 0} where
       (shape_of (terminator past.query) (plan past) h.lawful) n in
       let no_result : has_result p.slot ≡ false = ap (λ o. is_some o) p.empty in
       let N : List (Slot A) → Type 0 = λ xs. AllByRecursion (IsResultOf past.query) xs in
-      let I : Option Searched → Type 0 =
+      let I : Option SearchedBlock → Type 0 =
       λ o. IfSome o (λ r. (r.query ≡ past.query.text) × (r.block ≡ slot_block p.slot)) in
       record {
         gone = h.gone;
@@ -511,7 +512,7 @@ module _ {A : Type 0} where
       (eqb-true x.file f t.0, eqb-true x.number k t.1)
 
   -- by the slots an arrival is what it is by the history
-  answer_all : (s : Assembler A) (past : Past) (r : Searched) (h : IsAfter s past)
+  answer_all : (s : Assembler A) (past : Past) (r : SearchedBlock) (h : IsAfter s past)
       → same_text past.query.text r.query ≡ true
       → answer past r ≡ arrival_among s.buffer.starts (all s h) r.block
   unfolding answer_after
@@ -524,13 +525,13 @@ module _ {A : Type 0} where
       ∙ (ap (λ o. arrival_at o keys b) (find_slot s past h b.file b.number)
       ∙ at_slot keys b slots place (marks s past h) (block_named s past h b.file b.number))
 
-  pub answer_is : (s : Assembler A) (past : Past) (r : Searched) (a : Arrival) → IsAfter s past
+  pub answer_is : (s : Assembler A) (past : Past) (r : SearchedBlock) (a : Arrival) → IsAfter s past
       → same_text past.query.text r.query ≡ true → IsArrival s.buffer r.block a → a ≡ answer past r
   answer_is s past r a h same i = i h.gone h.given_up ∙ sym (answer_all s past r h same)
 
   -- An arrival that is not taken changes nothing.
 
-  same_keys : (s : Assembler A) (past : Past) (r : Searched) → IsAfter s past
+  same_keys : (s : Assembler A) (past : Past) (r : SearchedBlock) → IsAfter s past
       → taken_of past.query (arrived past r).events ≡ taken_of past.query past.events → IsAfter s (arrived past r)
   same_keys s past r h e =
       let T : List (ℕ × ℕ) → Type 0 = λ keys. map (is_taken keys) (announced (plan past)) ≡ map has_result (all s h) in
@@ -562,8 +563,8 @@ module _ {A : Type 0} where
         };
       }
 
-  pub kept_stands : (s : Assembler A) (past : Past) (r : Searched) (a : Arrival) → IsAfter s past → answer past r ≡ a
-      → (a ≡ Taken → ⊥) → IsAfter s (arrived past r)
+  pub kept_stands : (s : Assembler A) (past : Past) (r : SearchedBlock) (a : Arrival) → IsAfter s past
+      → answer past r ≡ a → (a ≡ Taken → ⊥) → IsAfter s (arrived past r)
   unfolding answer_after
   kept_stands s past r Taken h e ne = absurd (ne refl)
   kept_stands s past r Double h e ne =
@@ -571,7 +572,7 @@ module _ {A : Type 0} where
   kept_stands s past r Stranger h e ne =
       same_keys s past r h (ap (λ a. taken_after a r.block (taken_of past.query past.events)) e)
 
-  pub taken_stands : (s new : Assembler A) (past : Past) (r : Searched) → IsAfter s past → answer past r ≡ Taken
+  pub taken_stands : (s new : Assembler A) (past : Past) (r : SearchedBlock) → IsAfter s past → answer past r ≡ Taken
       → IsAlike s new → IsIdle s new → new.waiting.items ≡ s.waiting.items → new.failed ≡ s.failed
       → Puts r s.buffer new.buffer → IsAfter new (arrived past r)
   unfolding answer_after

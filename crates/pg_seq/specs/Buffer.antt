@@ -3,7 +3,7 @@ use Rattle.std.specs.Prelude.{◌≡◌, ℕ, ◌+◌, ◌≤◌, true, false, �
 use Rattle.std.specs.List.{AllByRecursion}
 use Rattle.pg_selection.specs.Search.{Search, HasItsTrees}
 use Rattle.pg_blocks.specs.Blocks.{BlockData}
-use Rattle.pg_selection.specs.Searched.{Searched}
+use Rattle.pg_selection.specs.Searched.{SearchedBlock}
 use Rattle.pg_seq.specs.Slots.{slot_block, has_result, slot_selects, place_of, arrival_among, with_result, IsResultOf}
 use Rattle.pg_plan.specs.declared.answers.Arrival.{Arrival}
 use Rattle.pg_seq.specs.declared.slot.Slot.{Slot}
@@ -52,7 +52,7 @@ IsArrival {A} buffer block arrival =
     arrival ≡ arrival_among buffer.starts (gone ++ buffer.slots.items) block
 
 -- a result stands at its block's place
-pub record Puts {A : Type 0} (found : Searched) (old new : ReorderBuffer A) : Type 0 where
+pub record Puts {A : Type 0} (found : SearchedBlock) (old new : ReorderBuffer A) : Type 0 where
   pub starts : new.starts ≡ old.starts
   pub slots : (gone : List (Slot A)) (k : ℕ) → length gone ≡ old.handed → old.handed ≤ k →
       place_of old.starts (length (gone ++ old.slots.items)) found.block.file found.block.number ≡ Some k →
@@ -69,7 +69,7 @@ pub record HandsOut {A : Type 0} (slot : Slot A) (old new : ReorderBuffer A) : T
       new.selected ≡ (old.selected || slot_selects q slot)
 
 -- the block behind so many has this result
-pub record HasResult {A : Type 0} (buffer : ReorderBuffer A) (count : ℕ) (found : Searched) : Type 0 where
+pub record HasResult {A : Type 0} (buffer : ReorderBuffer A) (count : ℕ) (found : SearchedBlock) : Type 0 where
   pub slot : Slot A
   pub later : List (Slot A)
   pub slots : drop count buffer.slots.items ≡ slot ∷ later

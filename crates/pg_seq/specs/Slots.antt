@@ -8,7 +8,7 @@ use Rattle.pg_selection.specs.Search.{Search, HasItsTrees, terminator}
 use Rattle.pg_blocks.specs.Lines.{lines}
 use Rattle.pg_blocks.specs.Blocks.{BlockData}
 use Rattle.pg_selection.specs.Selection.{selects}
-use Rattle.pg_selection.specs.Searched.{Searched}
+use Rattle.pg_selection.specs.Searched.{SearchedBlock}
 use Rattle.pg_plan.specs.History.{if_same}
 use Rattle.pg_plan.specs.declared.answers.Arrival.{Arrival}
 use Rattle.pg_plan.specs.declared.answers.Arrival.TheVariants.{Double, Stranger}
@@ -33,7 +33,7 @@ abbrev pub has_result : {A : Type 0} → Slot A → Bool
 has_result slot = is_some slot.result
 
 -- whether a result of the query has a selected line
-abbrev pub result_selects : Search → Option Searched → Bool
+abbrev pub result_selects : Search → Option SearchedBlock → Bool
 result_selects q None = false
 result_selects q (Some r) = list_any (selects q) (lines (terminator q) r.block.bytes)
 
@@ -57,7 +57,7 @@ abbrev pub arrival_among : {A : Type 0} → List ℕ → List (Slot A) → Block
 arrival_among starts slots b = arrival_at_slot (at_place slots (place_of starts (length slots) b.file b.number)) b
 
 -- the slots with a result at a place
-abbrev pub with_result : {A : Type 0} → List (Slot A) → ℕ → Searched → List (Slot A)
+abbrev pub with_result : {A : Type 0} → List (Slot A) → ℕ → SearchedBlock → List (Slot A)
 with_result [] k r = []
 with_result (slot ∷ slots) zero r = record slot { result = Some r } ∷ slots
 with_result (slot ∷ slots) (suc k) r = slot ∷ with_result slots k r

@@ -5,7 +5,7 @@ use Rattle.std.specs.Prelude.{List, [], ◌∷◌, ◌++◌, map, length}
 use Rattle.std.specs.List.{AllByRecursion, list_any}
 use Rattle.std.specs.Arc.{arc_value}
 use Rattle.pg_selection.specs.Search.{SearchText, Pattern, AreTreesOf, search_of, terminator, HasItsTrees}
-use Rattle.pg_selection.specs.Searched.{Searched}
+use Rattle.pg_selection.specs.Searched.{SearchedBlock}
 use Rattle.pg_rows.specs.declared.format.Format.{Format}
 use Rattle.pg_rows.specs.Enough.{is_enough}
 use Rattle.pg_rows.specs.Output.{HasRoom, is_bad, output}
@@ -104,11 +104,11 @@ abbrev pub StaysAtErr : {A T E : Type 0} → (old new : Assembler A) → Result 
 StaysAtErr old new result = (past : Past) → IsAfter old past → OnErr result (IsAfter new past)
 
 -- by some past after which it stands the result would be taken
-abbrev pub MayKeep : {A : Type 0} → Assembler A → Searched → Type 0
+abbrev pub MayKeep : {A : Type 0} → Assembler A → SearchedBlock → Type 0
 MayKeep s found = (past : Past) × IsAfter s past × (answer past found ≡ Taken)
 
 -- the result has arrived behind each past after which it stood and by which the result is taken
-abbrev pub Keeps : {A : Type 0} → (old new : Assembler A) → Searched → Type 0
+abbrev pub Keeps : {A : Type 0} → (old new : Assembler A) → SearchedBlock → Type 0
 Keeps old new found = (past : Past) → IsAfter old past → answer past found ≡ Taken → IsAfter new (arrived past found)
 
 -- whether enough was read, by the files of the front

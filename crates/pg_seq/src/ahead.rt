@@ -5,7 +5,7 @@ use pg_rows::{Format, Progress};
 
 /// How far the rows could be written by the results that have come.
 #[derive(Clone, Copy)]
-pub(crate) struct Ahead {
+pub(crate) struct Lookahead {
     /// How many of the blocks that wait would be handed out.
     pub(crate) blocks: usize,
     /// How many of the files that wait would be opened.
@@ -18,7 +18,7 @@ pub(crate) struct Ahead {
     pub(crate) selected: bool,
 }
 
-impl Ahead {
+impl Lookahead {
     ghost use Rattle.pg_rows.specs.Progress.{IsOfTrail};
     ghost use Rattle.pg_rows.specs.Trail.{Trail};
     ghost use Rattle.pg_seq.specs.Ahead.{is_enough_by};

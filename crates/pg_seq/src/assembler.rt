@@ -3,7 +3,7 @@ ghost use Rattle.std.specs.Prelude.{◌≡◌, ◌↔◌, true, false, IsTrue, I
 ghost use Rattle.std.specs.Arc.{arc_value};
 ghost use Rattle.pg_rows.specs.Modes.{is_quiet};
 
-use crate::ahead::Ahead;
+use crate::ahead::Lookahead;
 use crate::opening::Opening;
 use crate::reorder_buffer::ReorderBuffer;
 use pg_base::{Sink, WriteError};
@@ -276,7 +276,7 @@ impl<A: Allocator> Assembler<A> {
         requires { HasPast self.now }
         ensures { TellsEnough self.now result }
     {
-        let mut ahead = Ahead {
+        let mut ahead = Lookahead {
             blocks: 0,
             files: 0,
             inside: self.printing,
@@ -290,7 +290,7 @@ impl<A: Allocator> Assembler<A> {
     }
 
     /// One step further, where it could be done.
-    fn next_ahead(&self, ahead: Ahead) -> Option<Ahead>
+    fn next_ahead(&self, ahead: Lookahead) -> Option<Lookahead>
         requires { MayLookFurther self.now ahead }
         ensures { LooksOneFurther self.now ahead result }
     {
@@ -298,7 +298,7 @@ impl<A: Allocator> Assembler<A> {
             return self.file_ahead(ahead);
         }
         if self.is_over(ahead) {
-            return Some(Ahead {
+            return Some(Lookahead {
                 inside: false,
                 ..ahead
             });
@@ -307,14 +307,14 @@ impl<A: Allocator> Assembler<A> {
     }
 
     /// Opens the next file.
-    fn file_ahead(&self, ahead: Ahead) -> Option<Ahead>
+    fn file_ahead(&self, ahead: Lookahead) -> Option<Lookahead>
         requires { ahead.inside ≡ false }
         ensures { LooksOneFurther self.now ahead result }
     {
         if ahead.files >= self.waiting.len() {
             return None;
         }
-        Some(Ahead {
+        Some(Lookahead {
             files: ahead.files + 1,
             inside: true,
             progress: Progress::new(),
@@ -323,7 +323,7 @@ impl<A: Allocator> Assembler<A> {
     }
 
     /// Whether the open file has no more blocks and has ended.
-    fn is_over(&self, ahead: Ahead) -> bool
+    fn is_over(&self, ahead: Lookahead) -> bool
         ensures { result ≡ is_over self.now ahead }
     {
         match self.waiting.get(ahead.files) {
@@ -333,7 +333,7 @@ impl<A: Allocator> Assembler<A> {
     }
 
     /// Goes past the next block, where its result has come.
-    fn block_ahead(&self, ahead: Ahead) -> Option<Ahead>
+    fn block_ahead(&self, ahead: Lookahead) -> Option<Lookahead>
         requires stands { MayLookFurther self.now ahead }
         requires inside { (ahead.inside ≡ true) × (is_over self.now ahead ≡ false) }
         ensures { LooksOneFurther self.now ahead result }
@@ -342,7 +342,7 @@ impl<A: Allocator> Assembler<A> {
             return None;
         };
         let (runs, lines) = (found.runs(), found.lines() as u64);
-        Some(Ahead {
+        Some(Lookahead {
             blocks: ahead.blocks + 1,
             progress: ahead.progress.after(&self.format, runs, lines),
             selected: ahead.selected | !runs.is_empty(),

@@ -14,7 +14,7 @@ pub struct Budget {
 impl Budget {
     /// Takes a cost, or what is left where that is less.
     #[inline(always)]
-    pub fn spend(&mut self, cost: usize)
+    pub(crate) fn spend(&mut self, cost: usize)
         ensures { self.new.left ≡ self.old.left - cost }
     {
         self.left = self.left.saturating_sub(cost);

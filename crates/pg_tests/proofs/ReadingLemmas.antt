@@ -7,7 +7,7 @@ use Rattle.std.proofs.lemmas.List.Concat.{flat_map-append}
 use Rattle.pg_blocks.proofs.WithinLemmas.{lines_short}
 use Rattle.pg_blocks.specs.Blocks.{BlockData, joined, EndsWith}
 use Rattle.pg_selection.specs.Search.{terminator}
-use Rattle.pg_selection.specs.Searched.{Searched}
+use Rattle.pg_selection.specs.Searched.{SearchedBlock}
 use Rattle.pg_plan.specs.Plan.{Opens, Announces, Ends, Misses, MayFollow, last_blocks}
 use Rattle.pg_plan.specs.History.{planned, arrived, plan}
 use Rattle.pg_seq.specs.Standing.{IsAfter}
@@ -76,7 +76,7 @@ announced s s' f n bytes b r block same h =
     }
 
 -- a result arrived
-pub arrived_on : {A : Type 0} (s s' : Assembler A) (f n : ℕ) (found : Searched) (r : IsReading s f n)
+pub arrived_on : {A : Type 0} (s s' : Assembler A) (f n : ℕ) (found : SearchedBlock) (r : IsReading s f n)
     → IsAfter s' (arrived r.past found) → IsReading s' f n
 arrived_on s s' f n found r h = record {
   past = arrived r.past found;

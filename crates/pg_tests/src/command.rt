@@ -3,8 +3,8 @@ ghost use Rattle.std.specs.Prelude.{◌≤◌};
 
 use crate::formats::cut;
 use pg_base::MemSink;
-use pg_command::{Call, Fault, Told, command, report};
-use pg_files::{Ending, Listed, MemStore};
+use pg_command::{Call, Fault, ToldFault, command, report};
+use pg_files::{Ending, MemStore, OperandFiles};
 use pg_walk::{FileKind, MemTree, Node};
 use pg_words::{Task, Words, read_words};
 use std::alloc::Global;
@@ -31,7 +31,7 @@ struct Case {
     out: usize,
     err: usize,
     ending: Ending,
-    answer: Result<u8, Told>,
+    answer: Result<u8, ToldFault>,
     written: usize,
 }
 
@@ -55,10 +55,10 @@ fn ending_of(rt: &impl Abort, letter: u8) -> Ending {
 }
 
 /// The status of a digit, or `!` where a fault was told instead.
-fn answer_of(rt: &impl Abort, letter: u8) -> Result<u8, Told> {
+fn answer_of(rt: &impl Abort, letter: u8) -> Result<u8, ToldFault> {
     match letter {
         b'0'..=b'2' => Ok(letter - b'0'),
-        b'!' => Err(Told),
+        b'!' => Err(ToldFault),
         _ => panic!(rt; "a status"),
     }
 }
@@ -82,7 +82,7 @@ fn case_of(rt: &impl Abort, letters: &str) -> Case {
 
 /// What a command line wrote and answered.
 struct Outcome {
-    answer: Result<u8, Told>,
+    answer: Result<u8, ToldFault>,
     out: MemSink,
     err: MemSink,
 }
@@ -143,7 +143,7 @@ fn run(
     tree.add("broken", Node::new(FileKind::Regular))
         .expect(rt, "memory");
     let store = store_of(rt, alloc, case.ending, case.read.max(1));
-    let mut files = Listed::new(alloc, &tree, store);
+    let mut files = OperandFiles::new(alloc, &tree, store);
     let mut out = MemSink::new(alloc, case.out).expect(rt, "memory");
     out.set_write_limit(case.write);
     let mut err = MemSink::new(alloc, case.err).expect(rt, "memory");

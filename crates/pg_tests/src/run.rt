@@ -6,7 +6,7 @@ use crate::command::words_of;
 use crate::fixtures::PLAIN;
 use crate::formats::{cut, format_of, with_controls};
 use pg_base::MemSink;
-use pg_files::{Ending, Listed, MemFiles, MemStore};
+use pg_files::{Ending, MemFiles, MemStore, OperandFiles};
 use pg_lines::{Kind, ListFault, PatternList, QueryFault, QueryText};
 use pg_rows::Format;
 use pg_search::{FreeGate, RunFault, SearchFault, Setup, run};
@@ -174,7 +174,7 @@ fn list<'t>(rt: &impl Abort, alloc: Global, tree: &'t MemTree, case: Case<'_>) -
     ensures { (result.walk.asked.items ≡ []) × (result.done ≡ false) }
 {
     let operands = operands_of(rt, alloc, case.is_alone);
-    let mut files = Listed::new(alloc, tree, store_of(rt, alloc, case));
+    let mut files = OperandFiles::new(alloc, tree, store_of(rt, alloc, case));
     let scope = Scope::all(alloc, true);
     let listed = files.list(alloc, tree, &operands, scope, true, String::new(alloc));
     listed.expect(rt, "memory");

@@ -16,7 +16,7 @@ use Rattle.pg_walk.proofs.Joins.{Adds}
 use Rattle.pg_walk.specs.Within.{FollowOperands}
 use Rattle.pg_walk.specs.Left.{Spot, Operand, Entry, AreLeft, MayBeLeft, MayGive, shown, Unfolds, UnfoldsWithin}
 use Rattle.pg_walk.specs.Left.{spot_of, spots_in, spot_gives, BeginsWalk, HasGiven, IsWalk}
-use Rattle.pg_walk.specs.declared.walker.Waiting.{Waiting}
+use Rattle.pg_walk.specs.declared.walker.WaitingPath.{WaitingPath}
 use Rattle.pg_walk.proofs.Steps.{some_more, some_all, SomeGive, first_none, first_more, first_all}
 use Rattle.pg_walk.proofs.Steps.{FirstGive}
 use Rattle.pg_walk.proofs.Exists.{some_left}
@@ -93,13 +93,13 @@ pub whole_left : (a : Sights) (r : Bool) (ops : List Text) (items : List Found)
 whole_left a r ops items left =
     first_left a r ops (length ops) 0 (omega arith) items left [] (first_none a ops r)
 
-pub spots_more : {A : Type 0} (xs : List (Waiting A)) (x : Waiting A) →
+pub spots_more : {A : Type 0} (xs : List (WaitingPath A)) (x : WaitingPath A) →
     spots_in (xs ++ x ∷ []) ≡ spot_of x ∷ spots_in xs
 spots_more xs x = ap reverse (map-append spot_of xs (x ∷ [])) ∙ reverse-append (map spot_of xs) (spot_of x ∷ [])
 
 -- one more path is put in front of those that wait
-pub pushed : {A X : Type 0} (at : Text → Spot) (text : X → Text) (xs : List X) (old new : List (Waiting A))
-    (w : Waiting A) (x : X) (base : List Spot) (left : ℕ) → 0 < left → left ≤ length xs → new ≡ old ++ w ∷ []
+pub pushed : {A X : Type 0} (at : Text → Spot) (text : X → Text) (xs : List X) (old new : List (WaitingPath A))
+    (w : WaitingPath A) (x : X) (base : List Spot) (left : ℕ) → 0 < left → left ≤ length xs → new ≡ old ++ w ∷ []
     → spot_of w ≡ at (text x) → x ≡ get_or xs (left - 1) x
     → spots_in old ≡ map at (map text (drop left xs)) ++ base
     → spots_in new ≡ map at (map text (drop (left - 1) xs)) ++ base

@@ -9,20 +9,20 @@ use Rattle.pg_walk.specs.Places.{Names}
 use Rattle.pg_walk.specs.Walks.{names_cmp, ItemsOf, FilesOf}
 use Rattle.pg_walk.specs.Within.{BelongTo, FollowOperands, IsWithin}
 use Rattle.pg_walk.specs.Descent.{EntryGives, OperandGives}
-use Rattle.pg_walk.specs.declared.walker.Waiting.{Waiting}
-use Rattle.pg_walk.specs.declared.walker.Waiting.TheVariants as V
+use Rattle.pg_walk.specs.declared.walker.WaitingPath.{WaitingPath}
+use Rattle.pg_walk.specs.declared.walker.WaitingPath.TheVariants as V
 
 -- a path whose turn is still to come: an operand, or an entry of this depth
 pub data Spot : Type 0 where
   Operand : Text → Spot
   Entry : Text → ℕ → Spot
 
-abbrev pub spot_of : {A : Type 0} → Waiting A → Spot
+abbrev pub spot_of : {A : Type 0} → WaitingPath A → Spot
 spot_of (V.Operand path) = Operand (string_bytes path)
 spot_of (V.Entry path depth) = Entry (string_bytes path) depth
 
 -- the last of them is the next
-abbrev pub spots_in : {A : Type 0} → List (Waiting A) → List Spot
+abbrev pub spots_in : {A : Type 0} → List (WaitingPath A) → List Spot
 spots_in waiting = reverse (map spot_of waiting)
 
 -- what such a path gives with all that is below it, by the tree's answers

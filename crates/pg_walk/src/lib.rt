@@ -23,4 +23,4 @@ pub use mem_tree::{MemTree, Node};
 pub use prefetch::{Helper, NoHelper, Prefetch, start_helper};
 pub use scope::{Devices, Scope};
 pub use tree::{FileKind, FileTree, Identity, Listing, LookFault};
-pub use walker::{Waiting, Walker, entry_path};
+pub use walker::{WaitingPath, Walker, entry_path};

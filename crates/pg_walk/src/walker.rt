@@ -58,7 +58,7 @@ fn in_order<A: Allocator + Copy>(names: Vec<String<A>, A>) -> Vec<String<A>, A>
 
 /// A path whose turn is still to come.
 #[derive(Drop)]
-pub enum Waiting<A: Allocator = Global> {
+pub enum WaitingPath<A: Allocator = Global> {
     /// An operand.
     Operand(String<A>),
     /// An entry, and so many names it is below its operand.
@@ -68,7 +68,7 @@ pub enum Waiting<A: Allocator = Global> {
 /// Adds the entries of a directory, the first one last.
 fn push_below<A: Allocator + Copy>(
     alloc: A,
-    waiting: &mut Vec<Waiting<A>, A>,
+    waiting: &mut Vec<WaitingPath<A>, A>,
     path: &str,
     names: &[String<A>],
     depth: u32,
@@ -82,7 +82,7 @@ fn push_below<A: Allocator + Copy>(
     while left > 0 {
         left -= 1;
         let below = entry_path(alloc, path, names[left].as_str())?;
-        waiting.push(Waiting::Entry(below, depth + 1))?;
+        waiting.push(WaitingPath::Entry(below, depth + 1))?;
     }
     Ok(())
 }
@@ -93,7 +93,7 @@ fn inside<A: Allocator + Copy, T: FileTree>(
     tree: &T,
     path: String<A>,
     depth: u32,
-    waiting: &mut Vec<Waiting<A>, A>,
+    waiting: &mut Vec<WaitingPath<A>, A>,
 ) -> Result<Option<Item<A>>, AllocError>
     requires { depth ≤ 256 }
     ensures gives { (asked : Asked) → T.tells tree.now → IfOk result (λ item. (recursive : Bool) →
@@ -126,7 +126,7 @@ fn entry<A: Allocator + Copy, T: FileTree>(
     scope: &Scope<A>,
     path: String<A>,
     depth: u32,
-    waiting: &mut Vec<Waiting<A>, A>,
+    waiting: &mut Vec<WaitingPath<A>, A>,
 ) -> Result<Option<Item<A>>, AllocError>
     ensures gives { T.tells tree.now → IfOk result (λ item. (recursive : Bool) →
         Unfolds (sights (scope_of scope.now) (T.answers tree.now)) recursive
@@ -161,7 +161,7 @@ fn operand<A: Allocator + Copy, T: FileTree>(
     tree: &T,
     scope: &Scope<A>,
     path: String<A>,
-    waiting: &mut Vec<Waiting<A>, A>,
+    waiting: &mut Vec<WaitingPath<A>, A>,
 ) -> Result<Option<Item<A>>, AllocError>
     ensures gives { T.tells tree.now → IfOk result (λ item.
         Unfolds (sights (scope_of scope.now) (T.answers tree.now)) scope.now.recursive
@@ -196,8 +196,8 @@ fn visit<A: Allocator + Copy, T: FileTree>(
     alloc: A,
     tree: &T,
     scope: &Scope<A>,
-    next: Waiting<A>,
-    waiting: &mut Vec<Waiting<A>, A>,
+    next: WaitingPath<A>,
+    waiting: &mut Vec<WaitingPath<A>, A>,
 ) -> Result<Option<Item<A>>, AllocError>
     ensures gives { T.tells tree.now → IfOk result (λ item.
         Unfolds (sights (scope_of scope.now) (T.answers tree.now)) scope.now.recursive
@@ -208,8 +208,8 @@ fn visit<A: Allocator + Copy, T: FileTree>(
         (option_map found item) (spots_in waiting.old.items) (spots_in waiting.new.items)) }
 {
     match next {
-        Waiting::Operand(path) => operand(alloc, tree, scope, path, waiting),
-        Waiting::Entry(path, depth) => entry(alloc, tree, scope, path, depth, waiting),
+        WaitingPath::Operand(path) => operand(alloc, tree, scope, path, waiting),
+        WaitingPath::Entry(path, depth) => entry(alloc, tree, scope, path, depth, waiting),
     }
 }
 
@@ -217,7 +217,7 @@ fn visit<A: Allocator + Copy, T: FileTree>(
 fn operands_waiting<A: Allocator + Copy, B: Allocator>(
     alloc: A,
     operands: &[String<B>],
-) -> Result<Vec<Waiting<A>, A>, AllocError>
+) -> Result<Vec<WaitingPath<A>, A>, AllocError>
     ensures { IfOk result (λ waiting.
         spots_in waiting.items ≡ map (λ path. Operand path) (map string_bytes operands.now)) }
 {
@@ -226,7 +226,7 @@ fn operands_waiting<A: Allocator + Copy, B: Allocator>(
     while left > 0 {
         left -= 1;
         let path = String::from_str(alloc, operands[left].as_str())?;
-        waiting.push(Waiting::Operand(path))?;
+        waiting.push(WaitingPath::Operand(path))?;
     }
     Ok(waiting)
 }
@@ -257,7 +257,7 @@ pub struct Walker<'t, T: FileTree, A: Allocator + Copy = Global> {
     /// What is asked for.
     pub scope: Scope<A>,
     /// What waits, the next one last.
-    pub waiting: Vec<Waiting<A>, A>,
+    pub waiting: Vec<WaitingPath<A>, A>,
 }
 
 impl<T: FileTree, A: Allocator + Copy> Drop for Walker<'_, T, A> {

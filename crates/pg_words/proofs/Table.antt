@@ -18,16 +18,16 @@ use Rattle.pg_words.specs.Joined.{takes_value}
 use Rattle.pg_words.specs.Line.{Text, Opt, by_name}
 use Rattle.pg_words.specs.Spelled.{begins, names_begun, only_one}
 use Rattle.pg_words.specs.declared.command.OptionRow.{OptionRow}
-use Rattle.pg_words.specs.declared.command.Behind.{Behind}
-use Rattle.pg_words.specs.declared.command.Behind.TheVariants as behind
+use Rattle.pg_words.specs.declared.command.OptionValue.{OptionValue}
+use Rattle.pg_words.specs.declared.command.OptionValue.TheVariants as behind
 use Rattle.pg_words.specs.declared.command.Names.{Names}
 use Rattle.pg_words.specs.declared.command.Names.TheVariants as names
 use Rattle.std.proofs.Math.Bool.{and-false}
 
-abbrev row : Names → Bor Text → Behind → OptionRow
+abbrev row : Names → Bor Text → OptionValue → OptionRow
 row n name b = record { 0 = n; 1 = name; 2 = b }
 
-same_value : (letter : Option ℕ) (name : Text) (others : List Text) (b : Behind)
+same_value : (letter : Option ℕ) (name : Text) (others : List Text) (b : OptionValue)
     → has_value_behind b ≡ takes_value (Some (record {
       letter = letter;
       name = name;
@@ -45,7 +45,7 @@ any_map : (p : Text → Bool) (others : List (Bor Text))
 any_map p [] = refl
 any_map p (other ∷ others) = ap (λ (b : Bool). p other.now || b) (any_map p others)
 
-name_found_by : (n : Names) (own : Bor Text) (b : Behind) (rows : List OptionRow) (name : Text)
+name_found_by : (n : Names) (own : Bor Text) (b : OptionValue) (rows : List OptionRow) (name : Text)
     → has_name (row n own b) name ≡ true
     → has_value_behind b ≡ takes_value (by_name (opts_of (row n own b ∷ rows)) name)
 name_found_by (names.Letter letter others) own b rows name e =
@@ -56,7 +56,7 @@ name_found_by (names.Long others) own b rows name e =
     (same_value None own.now (map (λ other. other.now) others.now) b)
 name_found_by names.Place own b rows name e = cc
 
-name_passed_by : (n : Names) (own : Bor Text) (b : Behind) (rows : List OptionRow) (name : Text)
+name_passed_by : (n : Names) (own : Bor Text) (b : OptionValue) (rows : List OptionRow) (name : Text)
     → has_name (row n own b) name ≡ false
     → by_name (opts_of (row n own b ∷ rows)) name ≡ by_name (opts_of rows) name
 name_passed_by (names.Letter letter others) own b rows name e =
@@ -73,7 +73,7 @@ pub name_passed : (r : OptionRow) (rows : List OptionRow) (name : Text) → has_
     → by_name (opts_of (r ∷ rows)) name ≡ by_name (opts_of rows) name
 name_passed r rows name e = name_passed_by r.0 r.1 r.2 rows name e
 
-name_some_by : (n : Names) (own : Bor Text) (b : Behind) (rows : List OptionRow) (name : Text)
+name_some_by : (n : Names) (own : Bor Text) (b : OptionValue) (rows : List OptionRow) (name : Text)
     → has_name (row n own b) name ≡ true → is_some (by_name (opts_of (row n own b ∷ rows)) name) ≡ true
 name_some_by (names.Letter letter others) own b rows name e =
     rw (any_map (λ (other : Text). bytes_eq other name) others.now, e) refl
@@ -83,7 +83,7 @@ name_some_by names.Place own b rows name e = cc
 
 -- ---- names that are cut short
 
-begun_by : (n : Names) (own : Bor Text) (b : Behind) (rows : List OptionRow) (start : Text)
+begun_by : (n : Names) (own : Bor Text) (b : OptionValue) (rows : List OptionRow) (start : Text)
     → has_begun_name (row n own b) start ≡ true
     → names_begun (opts_of (row n own b ∷ rows)) start ≡ own.now ∷ names_begun (opts_of rows) start
 begun_by (names.Letter letter others) own b rows start e =
@@ -92,7 +92,7 @@ begun_by (names.Long others) own b rows start e =
     rw (any_map (λ (other : Text). begins other start) others.now, e) refl
 begun_by names.Place own b rows start e = absurd (true≢false (sym e ∙ and-false _))
 
-not_begun_by : (n : Names) (own : Bor Text) (b : Behind) (rows : List OptionRow) (start : Text)
+not_begun_by : (n : Names) (own : Bor Text) (b : OptionValue) (rows : List OptionRow) (start : Text)
     → has_begun_name (row n own b) start ≡ false
     → names_begun (opts_of (row n own b ∷ rows)) start ≡ names_begun (opts_of rows) start
 not_begun_by (names.Letter letter others) own b rows start e =

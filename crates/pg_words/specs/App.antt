@@ -12,8 +12,8 @@ use Rattle.clap.specs.declared.builder.value_parser.ValueParser.TheVariants as v
 use Rattle.pg_words.specs.Line.{Text, Value, Nothing, AnyText, Number, Opt, table}
 use Rattle.pg_words.specs.Spelled.{begins}
 use Rattle.pg_words.specs.declared.command.OptionRow.{OptionRow}
-use Rattle.pg_words.specs.declared.command.Behind.{Behind}
-use Rattle.pg_words.specs.declared.command.Behind.TheVariants as behind
+use Rattle.pg_words.specs.declared.command.OptionValue.{OptionValue}
+use Rattle.pg_words.specs.declared.command.OptionValue.TheVariants as behind
 use Rattle.pg_words.specs.declared.command.Names.{Names}
 use Rattle.pg_words.specs.declared.command.Names.TheVariants as names
 
@@ -66,27 +66,27 @@ our_app = app_with table
 
 -- ---- the rows of the code's table
 
-abbrev pub action_behind : Behind → ArgAction
+abbrev pub action_behind : OptionValue → ArgAction
 action_behind behind.Nothing = SetTrue
 action_behind (behind.Text name) = Append
 action_behind (behind.Number low high) = Set
 action_behind behind.Itself = Append
 
-abbrev pub parser_behind : Behind → ValueParser
+abbrev pub parser_behind : OptionValue → ValueParser
 parser_behind behind.Nothing = vp.Bool
 parser_behind (behind.Text name) = vp.String
 parser_behind (behind.Number low high) = vp.Signed (pos low) (pos high)
 parser_behind behind.Itself = vp.String
 
 -- what is found by this name
-abbrev pub named_rule : Behind → Text → Rule
+abbrev pub named_rule : OptionValue → Text → Rule
 named_rule it name = record (new_rule name) {
   value_names = 1;
   action = Some (action_behind it);
   parser = Some (parser_behind it);
 }
 
-abbrev pub rule_by : Names → Text → Behind → Rule
+abbrev pub rule_by : Names → Text → OptionValue → Rule
 rule_by (names.Letter letter others) name it =
     record (named_rule it name) { long = Some name; short = Some letter; aliases = map (λ other. other.now) others.now }
 rule_by (names.Long others) name it =
@@ -96,7 +96,7 @@ rule_by names.Place name it = named_rule it name
 abbrev pub rule_for : OptionRow → Rule
 rule_for row = rule_by row.0 row.1.now row.2
 
-abbrev pub has_value_behind : Behind → Bool
+abbrev pub has_value_behind : OptionValue → Bool
 has_value_behind behind.Nothing = false
 has_value_behind (behind.Text name) = true
 has_value_behind (behind.Number low high) = true
@@ -128,7 +128,7 @@ has_begun_name row start =
       | names.Place ↦ false
     ]
 
-abbrev pub value_of : Behind → Value
+abbrev pub value_of : OptionValue → Value
 value_of behind.Nothing = Nothing
 value_of (behind.Text name) = AnyText
 value_of (behind.Number low high) = Number low high

@@ -21,9 +21,10 @@ pub const MAX_ROUND: u32 = 1_024;
 /// The most lines before a selected one.
 const MAX_BEFORE: u32 = 65_535;
 
-/// What stands behind an option.
+/// The value that an option takes.
 #[derive(Clone, Copy)]
-pub(crate) enum Behind {
+pub(crate) enum OptionValue {
+    /// None.
     Nothing,
     /// A text, which faults call so. Texts collect.
     Text(&'static str),
@@ -53,9 +54,9 @@ pub(crate) enum Names {
     Place,
 }
 
-/// An option: what it goes by, its long name, and what stands behind it.
+/// An option: what it goes by, its long name, and its value.
 #[derive(Clone, Copy)]
-pub(crate) struct OptionRow(Names, &'static str, Behind);
+pub(crate) struct OptionRow(Names, &'static str, OptionValue);
 
 /// The options, and the operands: PATTERN, where neither -e nor -f is given, and each FILE. Of names that are equally
 /// close to a wrong one `clap` proposes the last. -G is read by nobody: it asks for what is taken without -E and -F,
@@ -64,89 +65,129 @@ pub(crate) struct OptionRow(Names, &'static str, Behind);
 /// --always-spread serves tests alone, so that neither --help nor the manual page names it. -P is known to be refused
 /// with what to do instead.
 static OPTIONS: [OptionRow; 51] = [
-    OptionRow(Names::Letter('q', &["silent"]), "quiet", Behind::Nothing),
-    OptionRow(Names::Letter('E', &[]), "extended-regexp", Behind::Nothing),
-    OptionRow(Names::Letter('F', &[]), "fixed-strings", Behind::Nothing),
-    OptionRow(Names::Letter('G', &[]), "basic-regexp", Behind::Nothing),
-    OptionRow(Names::Letter('P', &[]), "perl-regexp", Behind::Nothing),
-    OptionRow(Names::Letter('i', &[]), "ignore-case", Behind::Nothing),
-    OptionRow(Names::Long(&[]), "no-ignore-case", Behind::Nothing),
-    OptionRow(Names::Letter('v', &[]), "invert-match", Behind::Nothing),
-    OptionRow(Names::Letter('w', &[]), "word-regexp", Behind::Nothing),
-    OptionRow(Names::Letter('x', &[]), "line-regexp", Behind::Nothing),
-    OptionRow(Names::Letter('z', &[]), "null-data", Behind::Nothing),
-    OptionRow(Names::Letter('e', &[]), "regexp", Behind::Text("TEXT")),
-    OptionRow(Names::Letter('f', &[]), "file", Behind::Text("FILE")),
-    OptionRow(Names::Letter('o', &[]), "only-matching", Behind::Nothing),
-    OptionRow(Names::Letter('c', &[]), "count", Behind::Nothing),
+    OptionRow(
+        Names::Letter('q', &["silent"]),
+        "quiet",
+        OptionValue::Nothing,
+    ),
+    OptionRow(
+        Names::Letter('E', &[]),
+        "extended-regexp",
+        OptionValue::Nothing,
+    ),
+    OptionRow(
+        Names::Letter('F', &[]),
+        "fixed-strings",
+        OptionValue::Nothing,
+    ),
+    OptionRow(
+        Names::Letter('G', &[]),
+        "basic-regexp",
+        OptionValue::Nothing,
+    ),
+    OptionRow(Names::Letter('P', &[]), "perl-regexp", OptionValue::Nothing),
+    OptionRow(Names::Letter('i', &[]), "ignore-case", OptionValue::Nothing),
+    OptionRow(Names::Long(&[]), "no-ignore-case", OptionValue::Nothing),
+    OptionRow(
+        Names::Letter('v', &[]),
+        "invert-match",
+        OptionValue::Nothing,
+    ),
+    OptionRow(Names::Letter('w', &[]), "word-regexp", OptionValue::Nothing),
+    OptionRow(Names::Letter('x', &[]), "line-regexp", OptionValue::Nothing),
+    OptionRow(Names::Letter('z', &[]), "null-data", OptionValue::Nothing),
+    OptionRow(Names::Letter('e', &[]), "regexp", OptionValue::Text("TEXT")),
+    OptionRow(Names::Letter('f', &[]), "file", OptionValue::Text("FILE")),
+    OptionRow(
+        Names::Letter('o', &[]),
+        "only-matching",
+        OptionValue::Nothing,
+    ),
+    OptionRow(Names::Letter('c', &[]), "count", OptionValue::Nothing),
     OptionRow(
         Names::Letter('l', &[]),
         "files-with-matches",
-        Behind::Nothing,
+        OptionValue::Nothing,
     ),
     OptionRow(
         Names::Letter('L', &[]),
         "files-without-match",
-        Behind::Nothing,
+        OptionValue::Nothing,
     ),
-    OptionRow(Names::Letter('Z', &[]), "null", Behind::Nothing),
-    OptionRow(Names::Letter('b', &[]), "byte-offset", Behind::Nothing),
-    OptionRow(Names::Letter('n', &[]), "line-number", Behind::Nothing),
-    OptionRow(Names::Letter('T', &[]), "initial-tab", Behind::Nothing),
-    OptionRow(Names::Letter('H', &[]), "with-filename", Behind::Nothing),
-    OptionRow(Names::Letter('h', &[]), "no-filename", Behind::Nothing),
-    OptionRow(Names::Long(&[]), "label", Behind::Text("NAME")),
+    OptionRow(Names::Letter('Z', &[]), "null", OptionValue::Nothing),
+    OptionRow(Names::Letter('b', &[]), "byte-offset", OptionValue::Nothing),
+    OptionRow(Names::Letter('n', &[]), "line-number", OptionValue::Nothing),
+    OptionRow(Names::Letter('T', &[]), "initial-tab", OptionValue::Nothing),
+    OptionRow(
+        Names::Letter('H', &[]),
+        "with-filename",
+        OptionValue::Nothing,
+    ),
+    OptionRow(Names::Letter('h', &[]), "no-filename", OptionValue::Nothing),
+    OptionRow(Names::Long(&[]), "label", OptionValue::Text("NAME")),
     OptionRow(
         Names::Letter('m', &[]),
         "max-count",
-        Behind::Number(1, u32::MAX),
+        OptionValue::Number(1, u32::MAX),
     ),
     OptionRow(
         Names::Letter('A', &[]),
         "after-context",
-        Behind::Number(0, u32::MAX),
+        OptionValue::Number(0, u32::MAX),
     ),
     OptionRow(
         Names::Letter('B', &[]),
         "before-context",
-        Behind::Number(0, MAX_BEFORE),
+        OptionValue::Number(0, MAX_BEFORE),
     ),
     OptionRow(
         Names::Letter('C', &[]),
         "context",
-        Behind::Number(0, MAX_BEFORE),
+        OptionValue::Number(0, MAX_BEFORE),
     ),
-    OptionRow(Names::Long(&[]), "group-separator", Behind::Text("TEXT")),
-    OptionRow(Names::Long(&[]), "no-group-separator", Behind::Nothing),
-    OptionRow(Names::Long(&["colour"]), "color", Behind::Text("WHEN")),
-    OptionRow(Names::Letter('r', &[]), "recursive", Behind::Nothing),
+    OptionRow(
+        Names::Long(&[]),
+        "group-separator",
+        OptionValue::Text("TEXT"),
+    ),
+    OptionRow(Names::Long(&[]), "no-group-separator", OptionValue::Nothing),
+    OptionRow(Names::Long(&["colour"]), "color", OptionValue::Text("WHEN")),
+    OptionRow(Names::Letter('r', &[]), "recursive", OptionValue::Nothing),
     OptionRow(
         Names::Letter('R', &[]),
         "dereference-recursive",
-        Behind::Nothing,
+        OptionValue::Nothing,
     ),
     OptionRow(
         Names::Letter('d', &[]),
         "directories",
-        Behind::Text("ACTION"),
+        OptionValue::Text("ACTION"),
     ),
-    OptionRow(Names::Letter('D', &[]), "devices", Behind::Text("ACTION")),
-    OptionRow(Names::Long(&[]), "include", Behind::Text("GLOB")),
-    OptionRow(Names::Long(&[]), "exclude", Behind::Text("GLOB")),
-    OptionRow(Names::Long(&[]), "exclude-from", Behind::Text("FILE")),
-    OptionRow(Names::Long(&[]), "exclude-dir", Behind::Text("GLOB")),
-    OptionRow(Names::Letter('s', &[]), "no-messages", Behind::Nothing),
-    OptionRow(Names::Letter('a', &[]), "text", Behind::Nothing),
-    OptionRow(Names::Letter('U', &[]), "binary", Behind::Nothing),
-    OptionRow(Names::Long(&[]), "binary-files", Behind::Text("TYPE")),
-    OptionRow(Names::Long(&[]), "line-buffered", Behind::Nothing),
-    OptionRow(Names::Long(&[]), "workers", Behind::Number(1, MAX_WORKERS)),
-    OptionRow(Names::Long(&[]), "block", Behind::Number(1, MAX_BLOCK)),
-    OptionRow(Names::Long(&[]), "round", Behind::Number(1, MAX_ROUND)),
-    OptionRow(Names::Long(&[]), "always-spread", Behind::Nothing),
-    OptionRow(Names::Long(&[]), "help", Behind::Nothing),
-    OptionRow(Names::Letter('V', &[]), "version", Behind::Nothing),
-    OptionRow(Names::Place, "operands", Behind::Itself),
+    OptionRow(
+        Names::Letter('D', &[]),
+        "devices",
+        OptionValue::Text("ACTION"),
+    ),
+    OptionRow(Names::Long(&[]), "include", OptionValue::Text("GLOB")),
+    OptionRow(Names::Long(&[]), "exclude", OptionValue::Text("GLOB")),
+    OptionRow(Names::Long(&[]), "exclude-from", OptionValue::Text("FILE")),
+    OptionRow(Names::Long(&[]), "exclude-dir", OptionValue::Text("GLOB")),
+    OptionRow(Names::Letter('s', &[]), "no-messages", OptionValue::Nothing),
+    OptionRow(Names::Letter('a', &[]), "text", OptionValue::Nothing),
+    OptionRow(Names::Letter('U', &[]), "binary", OptionValue::Nothing),
+    OptionRow(Names::Long(&[]), "binary-files", OptionValue::Text("TYPE")),
+    OptionRow(Names::Long(&[]), "line-buffered", OptionValue::Nothing),
+    OptionRow(
+        Names::Long(&[]),
+        "workers",
+        OptionValue::Number(1, MAX_WORKERS),
+    ),
+    OptionRow(Names::Long(&[]), "block", OptionValue::Number(1, MAX_BLOCK)),
+    OptionRow(Names::Long(&[]), "round", OptionValue::Number(1, MAX_ROUND)),
+    OptionRow(Names::Long(&[]), "always-spread", OptionValue::Nothing),
+    OptionRow(Names::Long(&[]), "help", OptionValue::Nothing),
+    OptionRow(Names::Letter('V', &[]), "version", OptionValue::Nothing),
+    OptionRow(Names::Place, "operands", OptionValue::Itself),
 ];
 
 /// The options and operands of a search.
@@ -342,7 +383,7 @@ impl OptionRow {
     fn has_value(&self) -> bool
         ensures { result ≡ has_value_behind self.now.2 }
     {
-        !matches!(self.2, Behind::Nothing)
+        !matches!(self.2, OptionValue::Nothing)
     }
 
     /// The option as `clap` knows it.
@@ -363,7 +404,7 @@ impl OptionRow {
     }
 }
 
-impl Behind {
+impl OptionValue {
     /// What is found by this name, and has this behind it.
     fn named<'a>(self, alloc: Global, name: &'a str) -> Arg<'a>
         ensures rule { rule_of result ≡ named_rule self name.now }
@@ -383,22 +424,22 @@ impl Behind {
         ensures parser { result.parser ≡ parser_behind self }
     {
         match self {
-            Behind::Nothing => Reading {
+            OptionValue::Nothing => Reading {
                 name: "",
                 action: ArgAction::SetTrue,
                 parser: ValueParser::Bool,
             },
-            Behind::Text(name) => Reading {
+            OptionValue::Text(name) => Reading {
                 name,
                 action: ArgAction::Append,
                 parser: ValueParser::String,
             },
-            Behind::Number(first, last) => Reading {
+            OptionValue::Number(first, last) => Reading {
                 name: "N",
                 action: ArgAction::Set,
                 parser: ValueParser::Signed(i64::from(first), i64::from(last)),
             },
-            Behind::Itself => Reading {
+            OptionValue::Itself => Reading {
                 name: "FILE",
                 action: ArgAction::Append,
                 parser: ValueParser::String,

@@ -9,7 +9,7 @@ use Rattle.pg_board.specs.Merge.{IsMerge, given_to}
 use Rattle.pg_board.specs.Board.{SeatView}
 use Rattle.pg_board.specs.Tray.{PutView}
 use Rattle.pg_board.proofs.CountLemmas.{total-append}
-use Rattle.pg_selection.specs.Searched.{Searched}
+use Rattle.pg_selection.specs.Searched.{SearchedBlock}
 use Rattle.pg_workers.specs.Results.{IsResultOf, AreResultsOf, HasResult}
 use Rattle.pg_workers.specs.Workers.{Task, AreWorks}
 
@@ -39,10 +39,10 @@ module _ {B F : Type 0} (finds : B → F → Type 0) (blocks : List B) (n : ℕ)
       (in_given i given) h
 
 module _ {A C : Type 0} (t : Task A C) where
-  abbrev Has : ℕ → List Searched → Type 0
+  abbrev Has : ℕ → List SearchedBlock → Type 0
   Has n rs = HasResult t.search.finds t.blocks n rs
 
-  in_works : (n : ℕ) (ss : List SeatView) (ps : List (PutView Searched A)) → AreWorks t ss ps
+  in_works : (n : ℕ) (ss : List SeatView) (ps : List (PutView SearchedBlock A)) → AreWorks t ss ps
       → 1 ≤ times n (flat_map (λ s. s.drawn) ss)
       → (i : ℕ) × Has n (slice_index_or (map (λ p. p.put) ps) i [])
   in_works n [] [] h l = absurd (omega arith)
@@ -54,32 +54,33 @@ module _ {A C : Type 0} (t : Task A C) where
       (flat_map (λ s. s.drawn) ss) in let q : ¬ (1 ≤ times n s.drawn) = not in
       let r = in_works n ss ps h.1 (omega arith) in (suc r.0, r.1))
 
-  pub covers : (n : ℕ) (ss : List SeatView) (ps : List (PutView Searched A)) (upto : ℕ) (whole : List Searched)
-      → AreWorks t ss ps
+  pub covers : (n : ℕ) (ss : List SeatView) (ps : List (PutView SearchedBlock A)) (upto : ℕ)
+      (whole : List SearchedBlock) → AreWorks t ss ps
       → times n (flat_map (λ s. s.drawn) ss) ≡ once_below n upto → n < upto → IsMerge (map (λ p. p.put) ps) whole
       → Has n whole
   covers n ss ps upto whole h drawn low merge =
       let one : once_below n upto ≡ 1 = grind (arith, nat_tests) in
       let w = in_works n ss ps h (omega arith) in
-      subst (λ (l : List Searched). Has n l) merge.is_whole
+      subst (λ (l : List SearchedBlock). Has n l) merge.is_whole
       (in_given t.search.finds t.blocks n w.0 merge.given
-      (subst (λ (l : List Searched). Has n l) (sym (merge.are_lists w.0)) w.1))
+      (subst (λ (l : List SearchedBlock). Has n l) (sym (merge.are_lists w.0)) w.1))
 
-  pub of_board : (ss : List SeatView) (ps : List (PutView Searched A)) → AreWorks t ss ps
+  pub of_board : (ss : List SeatView) (ps : List (PutView SearchedBlock A)) → AreWorks t ss ps
       → All (λ (s : SeatView). s.board ≡ t.board) ss
   of_board [] ps h i d l = absurd (omega arith)
   of_board (s ∷ ss) [] h i d l = absurd h
   of_board (s ∷ ss) (p ∷ ps) h zero d l = h.0.0
   of_board (s ∷ ss) (p ∷ ps) h (suc i) d l = of_board ss ps h.1 i d (omega arith)
 
-  pub of_tray : (ss : List SeatView) (ps : List (PutView Searched A)) → AreWorks t ss ps
-      → All (λ (p : PutView Searched A). p.tray ≡ t.tray) ps
+  pub of_tray : (ss : List SeatView) (ps : List (PutView SearchedBlock A)) → AreWorks t ss ps
+      → All (λ (p : PutView SearchedBlock A). p.tray ≡ t.tray) ps
   of_tray ss [] h i d l = absurd (omega arith)
   of_tray [] (p ∷ ps) h i d l = absurd h
   of_tray (s ∷ ss) (p ∷ ps) h zero d l = h.0.1
   of_tray (s ∷ ss) (p ∷ ps) h (suc i) d l = of_tray ss ps h.1 i d (omega arith)
 
-  pub works_length : (ss : List SeatView) (ps : List (PutView Searched A)) → AreWorks t ss ps → length ps ≡ length ss
+  pub works_length : (ss : List SeatView) (ps : List (PutView SearchedBlock A)) → AreWorks t ss ps
+      → length ps ≡ length ss
   works_length [] [] h = refl
   works_length [] (p ∷ ps) h = absurd h
   works_length (s ∷ ss) [] h = absurd h

@@ -2,7 +2,7 @@
 use Rattle.std.proofs.Common.{◌≡◌, ℕ, ◌<◌, false, List, [], ◌∷◌, ◌++◌, sym, refl, ap, ◌∙◌, subst, append_assoc}
 use Rattle.std.proofs.Common.{append-nil, Option, None, Some, IfSome}
 use Rattle.std.specs.Prelude.{option_to_list}
-use Rattle.pg_selection.specs.Searched.{Searched}
+use Rattle.pg_selection.specs.Searched.{SearchedBlock}
 use Rattle.pg_board.specs.Board.{SeatView, seat_view}
 use Rattle.pg_board.specs.Tray.{PutView, put_view}
 use Rattle.pg_workers.specs.Results.{IsResultOf, AreResultsOf}
@@ -18,30 +18,31 @@ module _ {B F : Type 0} (finds : B → F → Type 0) (blocks : List B) where
   results_join (n ∷ ns) ms (r ∷ rs) ts h k = (h.0, results_join ns ms rs ts h.1 k)
 
 module _ {A C : Type 0} (t : Task A C) where
-  pub grow_none : (d : List ℕ) (p : List Searched) → GrowAlike t d d p p
+  pub grow_none : (d : List ℕ) (p : List SearchedBlock) → GrowAlike t d d p p
   grow_none d p = ([], [], sym (append-nil d), sym (append-nil p), tt)
 
-  pub grow_more : (d d' d'' : List ℕ) (p p' p'' : List Searched) (n : ℕ) (r : Searched) → GrowAlike t d d' p p'
+  pub grow_more : (d d' d'' : List ℕ) (p p' p'' : List SearchedBlock) (n : ℕ) (r : SearchedBlock)
+      → GrowAlike t d d' p p'
       → d'' ≡ d' ++ n ∷ [] → p'' ≡ p' ++ r ∷ [] → IsResultOf t.search.finds t.blocks n r → GrowAlike t d d'' p p''
   grow_more d d' d'' p p' p'' n r h e f k = (
     h.0 ++ n ∷ [],
     h.1 ++ r ∷ [],
     e ∙ ap (λ (l : List ℕ). l ++ n ∷ []) h.2 ∙ append_assoc d h.0 (n ∷ []),
-    f ∙ ap (λ (l : List Searched). l ++ r ∷ []) h.3 ∙ append_assoc p h.1 (r ∷ []),
+    f ∙ ap (λ (l : List SearchedBlock). l ++ r ∷ []) h.3 ∙ append_assoc p h.1 (r ∷ []),
     results_join t.search.finds t.blocks h.0 (n ∷ []) h.1 (r ∷ []) h.4 (k, tt),
   )
 
   -- a number was drawn, and there is no result for it
-  pub grow_but : (d d' d'' : List ℕ) (p p' p'' : List Searched) (n : ℕ) → GrowAlike t d d' p p' → d'' ≡ d' ++ n ∷ []
-      → p'' ≡ p' → GrowBut t n d d'' p p''
-  grow_but d d' d'' p p' p'' n h e f = (d', e, subst (λ (l : List Searched). GrowAlike t d d' p l) (sym f) h)
+  pub grow_but : (d d' d'' : List ℕ) (p p' p'' : List SearchedBlock) (n : ℕ) → GrowAlike t d d' p p'
+      → d'' ≡ d' ++ n ∷ [] → p'' ≡ p' → GrowBut t n d d'' p p''
+  grow_but d d' d'' p p' p'' n h e f = (d', e, subst (λ (l : List SearchedBlock). GrowAlike t d d' p l) (sym f) h)
 
   -- what a seat drew and a pass put goes on
-  pub grown : (d d' : List ℕ) (p p' : List Searched) → AreResultsOf t.search.finds t.blocks d p → GrowAlike t d d' p p'
-      → AreResultsOf t.search.finds t.blocks d' p'
+  pub grown : (d d' : List ℕ) (p p' : List SearchedBlock) → AreResultsOf t.search.finds t.blocks d p
+      → GrowAlike t d d' p p' → AreResultsOf t.search.finds t.blocks d' p'
   grown d d' p p' k h =
       subst (λ (l : List ℕ). AreResultsOf t.search.finds t.blocks l p') (sym h.2)
-      (subst (λ (l : List Searched). AreResultsOf t.search.finds t.blocks (d ++ h.0) l) (sym h.3)
+      (subst (λ (l : List SearchedBlock). AreResultsOf t.search.finds t.blocks (d ++ h.0) l) (sym h.3)
       (results_join t.search.finds t.blocks d h.0 p h.1 k h.4))
 
   -- who has put a result for each number has finished
@@ -96,7 +97,7 @@ module _ {A C : Type 0} (t : Task A C) where
   tray_of w h = h.2.1
 
   -- who puts the missing result has put one for each number
-  pub completed : (w : Worker A C) (p : PutView Searched A) (n : ℕ) → HasWorked t w → w.unfinished ≡ Some n
+  pub completed : (w : Worker A C) (p : PutView SearchedBlock A) (n : ℕ) → HasWorked t w → w.unfinished ≡ Some n
       → p.tray ≡ t.tray → HasPut t n w.pass.put p.put → IsWork t w.seat p
   unfolding HasWorked
   completed w p n h is same put =
@@ -105,19 +106,19 @@ module _ {A C : Type 0} (t : Task A C) where
         h.2.0,
         same,
         subst (λ (l : List ℕ). AreResultsOf t.search.finds t.blocks l p.put) (sym drawn)
-            (subst (λ (l : List Searched). AreResultsOf t.search.finds t.blocks (h.0 ++ n ∷ []) l) (sym put.1)
+            (subst (λ (l : List SearchedBlock). AreResultsOf t.search.finds t.blocks (h.0 ++ n ∷ []) l) (sym put.1)
             (results_join t.search.finds t.blocks h.0 (n ∷ []) w.pass.put (put.0 ∷ []) h.2.2 (put.2, tt))),
       )
 
-  pub works_more : (ss : List SeatView) (ps : List (PutView Searched A)) (s : SeatView) (p : PutView Searched A)
-      → AreWorks t ss ps → IsWork t s p → AreWorks t (ss ++ s ∷ []) (ps ++ p ∷ [])
+  pub works_more : (ss : List SeatView) (ps : List (PutView SearchedBlock A)) (s : SeatView)
+      (p : PutView SearchedBlock A) → AreWorks t ss ps → IsWork t s p → AreWorks t (ss ++ s ∷ []) (ps ++ p ∷ [])
   works_more [] [] s p h k = (k, tt)
   works_more [] (q ∷ qs) s p h k = absurd h
   works_more (x ∷ xs) [] s p h k = absurd h
   works_more (x ∷ xs) (q ∷ qs) s p h k = (h.0, works_more xs qs s p h.1 k)
 
 -- nothing was drawn, and nothing was put
-pub fresh_work : {A C : Type 0} (t : Task A C) (s : SeatView) (p : PutView Searched A) → s ≡ seat_view t.board [] false
-    → p ≡ put_view t.tray [] → IsWork t s p
+pub fresh_work : {A C : Type 0} (t : Task A C) (s : SeatView) (p : PutView SearchedBlock A)
+    → s ≡ seat_view t.board [] false → p ≡ put_view t.tray [] → IsWork t s p
 fresh_work {A} {C} t s p e f = subst (λ (x : SeatView). IsWork t x p) (sym e)
-    (subst (λ (y : PutView Searched A). IsWork t (seat_view t.board [] false) y) (sym f) (refl, refl, tt))
+    (subst (λ (y : PutView SearchedBlock A). IsWork t (seat_view t.board [] false) y) (sym f) (refl, refl, tt))

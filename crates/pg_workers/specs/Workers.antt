@@ -5,28 +5,28 @@ use Rattle.crossbeam_queue.specs.SegTies.{SegId}
 use Rattle.pg_board.specs.Board.{BoardView, SeatView}
 use Rattle.pg_board.specs.Tray.{PutView}
 use Rattle.pg_blocks.specs.Blocks.{BlockData}
-use Rattle.pg_selection.specs.Searched.{Searched}
+use Rattle.pg_selection.specs.Searched.{SearchedBlock}
 use Rattle.pg_workers.specs.Results.{IsResultOf, AreResultsOf}
 use Rattle.pg_workers.specs.Searches.{SearchView}
 use Rattle.pg_workers.specs.declared.round.Round.{Round}
 use Rattle.pg_workers.specs.declared.worker.Worker.{Worker}
-use Rattle.pg_workers.specs.declared.starting.Started.{Started}
-use Rattle.pg_workers.specs.declared.starting.Started.TheVariants.{Running, Ended}
+use Rattle.pg_workers.specs.declared.starting.StartedWorker.{StartedWorker}
+use Rattle.pg_workers.specs.declared.starting.StartedWorker.TheVariants.{Running, Ended}
 
 -- a round as plain data: what searches which blocks, the board of their numbers, and the tray of the results
 pub record Task (A C : Type 0) : Type 1 where
-  pub search : SearchView (Arc BlockData A) C Searched
+  pub search : SearchView (Arc BlockData A) C SearchedBlock
   pub blocks : List (Arc BlockData A)
   pub board : BoardView
   pub tray : SegId A
 
 module _ {A C : Type 0} where
   abbrev pub task :
-      SearchView (Arc BlockData A) C Searched → List (Arc BlockData A) → BoardView → SegId A → Task A C
+      SearchView (Arc BlockData A) C SearchedBlock → List (Arc BlockData A) → BoardView → SegId A → Task A C
   task search blocks board tray = record { search = search; blocks = blocks; board = board; tray = tray }
 
   -- that of a round, by what is seen of its query
-  abbrev pub task_of : {Q : Type 0} → (Q → SearchView (Arc BlockData A) C Searched) → Round Q A → Task A C
+  abbrev pub task_of : {Q : Type 0} → (Q → SearchView (Arc BlockData A) C SearchedBlock) → Round Q A → Task A C
   task_of seen round = task (seen round.query.now) round.blocks.now round.board.now round.tray.now
 
   -- the board has a number for each block, and each block can be searched
@@ -34,22 +34,22 @@ module _ {A C : Type 0} where
   IsReady t = (length t.blocks ≡ t.board.limit) × All t.search.may t.blocks
 
   -- what was put grew by one result for each number that was drawn, in order
-  abbrev pub GrowAlike : Task A C → List ℕ → List ℕ → List Searched → List Searched → Type 0
+  abbrev pub GrowAlike : Task A C → List ℕ → List ℕ → List SearchedBlock → List SearchedBlock → Type 0
   GrowAlike t drawn drawn' put put' =
-      (ns : List ℕ) × (rs : List Searched) × (drawn' ≡ drawn ++ ns) × (put' ≡ put ++ rs)
+      (ns : List ℕ) × (rs : List SearchedBlock) × (drawn' ≡ drawn ++ ns) × (put' ≡ put ++ rs)
       × AreResultsOf t.search.finds t.blocks ns rs
 
   -- it was so for all the numbers that were drawn but the last, which is this one
-  abbrev pub GrowBut : Task A C → ℕ → List ℕ → List ℕ → List Searched → List Searched → Type 0
+  abbrev pub GrowBut : Task A C → ℕ → List ℕ → List ℕ → List SearchedBlock → List SearchedBlock → Type 0
   GrowBut t last drawn drawn' put put' =
       (before : List ℕ) × (drawn' ≡ before ++ last ∷ []) × GrowAlike t drawn before put put'
 
   -- what was put grew by the result of this number
-  abbrev pub HasPut : Task A C → ℕ → List Searched → List Searched → Type 0
-  HasPut t n put put' = (r : Searched) × (put' ≡ put ++ r ∷ []) × IsResultOf t.search.finds t.blocks n r
+  abbrev pub HasPut : Task A C → ℕ → List SearchedBlock → List SearchedBlock → Type 0
+  HasPut t n put put' = (r : SearchedBlock) × (put' ≡ put ++ r ∷ []) × IsResultOf t.search.finds t.blocks n r
 
   -- a seat and a pass of the round: the pass put one result for each number of the seat, in order
-  abbrev pub IsWork : Task A C → SeatView → PutView Searched A → Type 0
+  abbrev pub IsWork : Task A C → SeatView → PutView SearchedBlock A → Type 0
   IsWork t seat pass =
       (seat.board ≡ t.board) × (pass.tray ≡ t.tray) × AreResultsOf t.search.finds t.blocks seat.drawn pass.put
 
@@ -71,12 +71,12 @@ module _ {A C : Type 0} where
 
   -- a worker that was started will have worked, or has
   abbrev pub IsStarted :
-      {Q : Type 0} → (Q → SearchView (Arc BlockData A) C Searched) → Round Q A → Started A C Q → Type 0
+      {Q : Type 0} → (Q → SearchView (Arc BlockData A) C SearchedBlock) → Round Q A → StartedWorker A C Q → Type 0
   IsStarted seen round (Running handle) = handle.promise ≡ round
   IsStarted seen round (Ended worker) = HasWorked (task_of seen round) worker
 
   -- seats and passes side by side, each pair as it was worked with
-  abbrev pub AreWorks : Task A C → List SeatView → List (PutView Searched A) → Type 0
+  abbrev pub AreWorks : Task A C → List SeatView → List (PutView SearchedBlock A) → Type 0
   AreWorks t [] [] = Unit {0}
   AreWorks t (s ∷ ss) (p ∷ ps) = IsWork t s p × AreWorks t ss ps
   AreWorks t _ _ = ⊥

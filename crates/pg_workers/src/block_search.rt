@@ -12,7 +12,7 @@ pub trait BlockSearch {
     ghost use Rattle.std.specs.Prelude.{IfOk};
     ghost use Rattle.std.specs.declared.sync.Arc.{Arc};
     ghost use Rattle.pg_blocks.specs.Blocks.{BlockData};
-    ghost use Rattle.pg_selection.specs.Searched.{Searched};
+    ghost use Rattle.pg_selection.specs.Searched.{SearchedBlock};
     ghost use Rattle.pg_workers.specs.Searches.{SearchView};
 
     /// What blocks and results ask memory of.
@@ -22,7 +22,7 @@ pub trait BlockSearch {
     type Scratch: Drop;
 
     /// What is seen of it.
-    ghost seen: { Self → SearchView (Arc BlockData Self.Alloc) Self.Scratch Searched };
+    ghost seen: { Self → SearchView (Arc BlockData Self.Alloc) Self.Scratch SearchedBlock };
 
     /// Room for the searches of one more thread.
     ///

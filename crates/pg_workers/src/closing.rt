@@ -1,21 +1,22 @@
 //! What is left of a round once all have ended.
 ghost use Rattle.std.specs.Prelude.{◌≡◌, ◌+◌, true, All, Any, List, vec_len, length, IfOk, OnOk};
-ghost use Rattle.pg_selection.specs.Searched.{Searched};
+ghost use Rattle.pg_selection.specs.Searched.{SearchedBlock};
 ghost use Rattle.pg_board.specs.Merge.{IsMerge};
 ghost use Rattle.pg_workers.specs.Results.{HasAll};
 ghost use Rattle.pg_workers.specs.Workers.{task, task_of, HasFinished, AreWorks};
 
 use crate::block_search::BlockSearch;
+use crate::opening::OpenRound;
 use crate::round::Round;
 use crate::worker::Worker;
 use pg_blocks::Block;
-use pg_board::{Board, Delivered, PutPass, Seat, TakePass, Tray};
+use pg_board::{PutPass, Seat, TrayRest};
 use pg_selection::BlockResult;
 use std::alloc::{AllocError, Allocator};
 use std::sync::Arc;
 
 /// The seats and the passes of all workers, side by side.
-type Parted<A> = (Vec<Seat, A>, Vec<PutPass<BlockResult<A>, A>, A>);
+type SeatsAndPasses<A> = (Vec<Seat, A>, Vec<PutPass<BlockResult<A>, A>, A>);
 
 /// Takes all workers apart. Their scratches are given back.
 fn part<A: Allocator + Copy, C: Drop, Q: BlockSearch<Alloc = A, Scratch = C>>(
@@ -23,7 +24,7 @@ fn part<A: Allocator + Copy, C: Drop, Q: BlockSearch<Alloc = A, Scratch = C>>(
     round: Round<'_, Q, A>,
     mut workers: Vec<Worker<A, C>, A>,
     scratches: &mut Vec<C, A>,
-) -> Result<Parted<A>, AllocError>
+) -> Result<SeatsAndPasses<A>, AllocError>
     requires finished { All (HasFinished (task_of Q.seen round)) workers.items }
     requires spent { Any (λ w. w.seat.spent ≡ true) workers.items }
     requires fits { All (Q.seen round.query.now).fits scratches.old.items }
@@ -56,22 +57,27 @@ pub fn close_round<A: Allocator + Copy, C: Drop, Q: BlockSearch<Alloc = A, Scrat
     alloc: A,
     query: &Q,
     blocks: &[Arc<Block<A>, A>],
-    board: Board<A>,
-    tray: Tray<BlockResult<A>, A>,
-    workers: Vec<Worker<A, C>, A>,
-    take: TakePass<BlockResult<A>, A>,
+    round: OpenRound<A, C>,
     scratches: &mut Vec<C, A>,
-) -> Result<Delivered<BlockResult<A>, A>, AllocError>
-    requires finished { All (HasFinished (task (Q.seen query.now) blocks.now board tray)) workers.items }
-    requires spent { Any (λ w. w.seat.spent ≡ true) workers.items × (length blocks.now ≡ board.limit) }
-    requires all { (vec_len workers ≡ board.seats) × (vec_len workers ≡ take.workers) × (take.tray ≡ tray) }
+) -> Result<TrayRest<BlockResult<A>, A>, AllocError>
+    requires finished { All
+        (HasFinished (task (Q.seen query.now) blocks.now round.board round.tray)) round.workers.items }
+    requires spent { Any (λ w. w.seat.spent ≡ true) round.workers.items × (length blocks.now ≡ round.board.limit) }
+    requires all { (vec_len round.workers ≡ round.board.seats) × (vec_len round.workers ≡ round.take.workers)
+        × (round.take.tray ≡ round.tray) }
     requires fits { All (Q.seen query.now).fits scratches.old.items }
-    ensures taken { IfOk result (λ r. r.out ≡ take.taken) }
-    ensures all { IfOk result (λ r. (rs : List Searched) → IsMerge r.lists rs →
+    ensures taken { IfOk result (λ r. r.out ≡ round.take.taken) }
+    ensures all { IfOk result (λ r. (rs : List SearchedBlock) → IsMerge r.lists rs →
         HasAll (Q.seen query.now).finds blocks.now rs) }
     ensures fits { OnOk result (All (Q.seen query.now).fits scratches.new.items) }
-    ensures count { OnOk result (vec_len scratches.new ≡ vec_len scratches.old + vec_len workers) }
+    ensures count { OnOk result (vec_len scratches.new ≡ vec_len scratches.old + vec_len round.workers) }
 {
+    let OpenRound {
+        board,
+        tray,
+        take,
+        workers,
+    } = round;
     let round = Round {
         query,
         blocks,

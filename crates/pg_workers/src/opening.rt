@@ -16,7 +16,7 @@ use std::sync::Arc;
 /// An open round: the board of its blocks' numbers, the tray of their results, the right to take these out, and those
 /// who search.
 #[derive(Drop)]
-pub struct Opened<A: Allocator, C: Drop> {
+pub struct OpenRound<A: Allocator, C: Drop> {
     pub board: Board<A>,
     pub tray: Tray<BlockResult<A>, A>,
     pub take: TakePass<BlockResult<A>, A>,
@@ -70,7 +70,7 @@ pub fn open_round<A: Allocator + Copy, C: Drop, Q: BlockSearch<Alloc = A, Scratc
     blocks: &[Arc<Block<A>, A>],
     count: u32,
     scratches: &mut Vec<C, A>,
-) -> Result<Opened<A, C>, AllocError>
+) -> Result<OpenRound<A, C>, AllocError>
     requires few { (0 < count) × (count ≤ 65) × (count ≤ vec_len scratches.old) × (length blocks.now ≤ 1024) }
     requires fits { All (Q.seen query.now).fits scratches.old.items }
     ensures board { IfOk result (λ r. (r.board.limit ≡ length blocks.now) × (r.board.seats ≡ count)) }
@@ -89,7 +89,7 @@ pub fn open_round<A: Allocator + Copy, C: Drop, Q: BlockSearch<Alloc = A, Scratc
         tray: &tray,
     };
     let workers = gather(alloc, round, seats, passes, scratches)?;
-    Ok(Opened {
+    Ok(OpenRound {
         board,
         tray,
         take,

@@ -21,7 +21,7 @@ impl<'a, A: Allocator, C: Drop, Q: BlockSearch<Alloc = A, Scratch = C>> Promise<
 
 /// A worker in a thread of its own, or what came of it where none could be made.
 #[derive(Drop)]
-pub(crate) enum Started<'a, A: Allocator, C: Drop, Q: BlockSearch<Alloc = A, Scratch = C>> {
+pub(crate) enum StartedWorker<'a, A: Allocator, C: Drop, Q: BlockSearch<Alloc = A, Scratch = C>> {
     Running(PromisedHandle<Worker<A, C>, Round<'a, Q, A>>),
     Ended(Worker<A, C>),
 }
@@ -58,7 +58,7 @@ fn start<
     round: Round<'e, Q, A>,
     worker: Worker<A, C>,
     refused: &'e AtomicBool,
-) -> Started<'e, A, C, Q>
+) -> StartedWorker<'e, A, C, Q>
     requires ready { IsReady (task_of Q.seen round) }
     requires finished { HasFinished (task_of Q.seen round) worker }
     ensures { IsStarted Q.seen round.entry result }
@@ -87,10 +87,10 @@ fn start<
         },
     );
     match child {
-        Ok(handle) => Started::Running(handle),
+        Ok(handle) => StartedWorker::Running(handle),
         Err(refusal) => {
             refused.store(true, Ordering::SeqCst);
-            Started::Ended((refusal.value)())
+            StartedWorker::Ended((refusal.value)())
         }
     }
 }
@@ -111,7 +111,7 @@ pub(crate) fn start_all<
     round: Round<'e, Q, A>,
     workers: &mut Vec<Worker<A, C>, A>,
     refused: &'e AtomicBool,
-) -> Vec<Started<'e, A, C, Q>, A>
+) -> Vec<StartedWorker<'e, A, C, Q>, A>
     requires ready { IsReady (task_of Q.seen round) }
     requires finished { All (HasFinished (task_of Q.seen round)) workers.old.items × (1 < vec_len workers.old) }
     ensures finished { All (HasFinished (task_of Q.seen round.entry)) workers.new.items × (1 < vec_len workers.new) }
@@ -141,7 +141,7 @@ pub(crate) fn join_all<
 >(
     rt: &R,
     round: Round<'e, Q, A>,
-    all: &mut Vec<Started<'e, A, C, Q>, A>,
+    all: &mut Vec<StartedWorker<'e, A, C, Q>, A>,
     workers: &mut Vec<Worker<A, C>, A>,
 )
     requires started { All (IsStarted Q.seen round) all.old.items }
@@ -152,8 +152,8 @@ pub(crate) fn join_all<
 {
     while let Some(started) = all.pop() {
         let worker = match started {
-            Started::Running(handle) => handle.join(rt),
-            Started::Ended(worker) => worker,
+            StartedWorker::Running(handle) => handle.join(rt),
+            StartedWorker::Ended(worker) => worker,
         };
         workers.push_reserved(worker);
     }

@@ -15,7 +15,7 @@ use thiserror::Error;
 /// A block that was left unfinished: its number was drawn, and memory was refused before its result was put.
 #[derive(Clone, Copy, Debug, PartialEq, Eq, Error)]
 #[error("out of memory at block {number}")]
-pub struct Unfinished {
+pub struct UnfinishedBlock {
     /// The block's number in its round, from 0.
     pub number: u32,
 }
@@ -110,7 +110,7 @@ pub fn work<R: Wait, A: Allocator, C, Q: BlockSearch<Alloc = A, Scratch = C>>(
     scratch: &mut C,
     seat: &mut Seat,
     pass: &mut PutPass<BlockResult<A>, A>,
-) -> Result<(), Unfinished>
+) -> Result<(), UnfinishedBlock>
     requires ready { IsReady (task_of Q.seen round) }
     requires same { (seat.old.board ≡ round.board.now) × (pass.old.tray ≡ round.tray.now) }
     requires fits { (Q.seen round.query.now).fits scratch.old }
@@ -126,7 +126,7 @@ pub fn work<R: Wait, A: Allocator, C, Q: BlockSearch<Alloc = A, Scratch = C>>(
             return Ok(());
         };
         let Ok(()) = search_one(rt, round, scratch, pass, number) else {
-            return Err(Unfinished { number });
+            return Err(UnfinishedBlock { number });
         };
     }
     unreachable!()
@@ -152,7 +152,7 @@ pub(crate) fn search<R: Wait, A: Allocator, C, Q: BlockSearch<Alloc = A, Scratch
     } = worker;
     match work(rt, round, scratch, seat, pass) {
         Ok(()) => *unfinished = None,
-        Err(Unfinished { number }) => *unfinished = Some(number),
+        Err(UnfinishedBlock { number }) => *unfinished = Some(number),
     }
 }
 

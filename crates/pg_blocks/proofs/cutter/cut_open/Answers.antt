@@ -13,24 +13,24 @@ pub returns-clause-ok : goal.returns-clause-ok
 returns-clause-ok g c =
     let items : Vec ℕ g.row.A.Denot → List ℕ = λ v. v.items in
     let k = c.args.cutting in
-    let number = c.args.number in
+    let number = c.args.block.number in
     let len = c.args.len in
     let all = c.args.rest.now.items in
-    let rest = take c.args.filled all in
-    let behind = drop c.args.filled all in
+    let rest = take c.args.block.filled all in
+    let behind = drop c.args.block.filled all in
     let piece = take c.args.count behind in
     let ready = c.args.ready.now.items in
     let blocks = c.in_ok-blocks.blocks.items in
     let at = c.in_ok-blocks.at in
     let given = take c.args.count c.split_at.result.1.now in
     let given-is : given ≡ piece =
-    ap (take c.args.count) (c.split_at.ensures.back ∙ ap (drop c.args.filled) c.as_slice.ensures.value) in
+    ap (take c.args.count) (c.split_at.ensures.back ∙ ap (drop c.args.block.filled) c.as_slice.ensures.value) in
     let P : List ℕ → Type 0 = λ xs. Cuts k.end k.size xs blocks (drop at xs) in
     let Q : List ℕ → Type 0 = λ xs. Cuts k.end k.size (drop len xs) blocks (drop at (drop len xs)) in
     let cuts = subst Q given-is (subst P (take_rest given len) c.in_ok-blocks.ensures.cut) in
     let front : take len behind ≡ take len piece = sym (take-take len c.args.count behind c.requires.len.1) in
     let first : c.truncate.new.self.items ≡ rest ++ take len piece =
-    c.truncate.ensures.items ∙ (take-add c.args.filled len all ∙ ap (λ xs. rest ++ xs) front) in
+    c.truncate.ensures.items ∙ (take-add c.args.block.filled len all ∙ ap (λ xs. rest ++ xs) front) in
     let tail = take (length given - (len + at)) (drop (len + at) given) in
     let rest' = take (length tail) c.hand_over.new.rest.items in
     let left : rest' ≡ drop (len + at) piece =

@@ -3,7 +3,7 @@ use Rattle.std.specs.Arc.{arc_value}
 use Rattle.pg_blocks.specs.Blocks.{BlockData}
 use Rattle.pg_selection.specs.Search.{SearchText, terminator_of}
 use Rattle.pg_blocks.specs.Lines.{AreShort}
-use Rattle.pg_selection.specs.Searched.{Searched, IsFound}
+use Rattle.pg_selection.specs.Searched.{SearchedBlock, IsFound}
 use Rattle.pg_lines.proofs.search.search_block.Goals as goal
 
 pub new-requires : goal.new-requires
@@ -17,7 +17,7 @@ new-requires g c =
 
 pub returns-clause-found : goal.returns-clause-found
 returns-clause-found g c =
-    let with : SearchText → Searched = λ t. record { query = t; block = arc_value c.args.block } in
+    let with : SearchText → SearchedBlock = λ t. record { query = t; block = arc_value c.args.block } in
     c.new.ensures ∙ ap with (c.in_ok-selector.ensures ∙ c.selector.ensures)
 
 pub search_bytes-requires-clause-short : goal.search_bytes-requires-clause-short

@@ -1,8 +1,8 @@
 use Rattle.std.proofs.Common.{List, [], ◌∷◌, ◌++◌, ap, refl, sym, ◌∙◌, subst, append-nil, append_assoc}
 use Rattle.std.proofs.lemmas.Result.{err_from_is_err_and}
-use Rattle.pg_selection.specs.Searched.{Searched}
+use Rattle.pg_selection.specs.Searched.{SearchedBlock}
 use Rattle.pg_board.specs.Merge.{IsMerge}
-use Rattle.pg_board.specs.Tray.{DeliveredView}
+use Rattle.pg_board.specs.Tray.{TrayRestView}
 use Rattle.pg_round.specs.Receipts.{HasReceived, HasWritten}
 use Rattle.pg_round.proofs.DrainLemmas.{drain_writes, drain_breaks}
 use Rattle.pg_round.proofs.ReceiptLemmas.{takes_none, takes_more, takes_fault, takes_delivered}
@@ -27,10 +27,10 @@ loop-preserved g c =
     let mid = g.S.Collector.stands c.loop.collector in let last = g.S.Collector.stands c.receive.new.collector in
     record {
       more = (tt, tt);
-      lists = ap (λ (v : DeliveredView Searched). v.lists) gave ∙ i.lists;
+      lists = ap (λ (v : TrayRestView SearchedBlock). v.lists) gave ∙ i.lists;
       got = (
         i.got.0 ++ found,
-        ap (λ (v : DeliveredView Searched). v.out) gave ∙ ap (λ (l : List Searched). l ++ found) i.got.1
+        ap (λ (v : TrayRestView SearchedBlock). v.out) gave ∙ ap (λ (l : List SearchedBlock). l ++ found) i.got.1
             ∙ append_assoc c.args.delivered.out i.got.0 found,
         takes_more _ tt mid i.got.0 _ _ i.got.2 _ last found (i.got.0 ++ found) _ refl
             c.in_ok-receive-in-Some-next.ensures.took,
@@ -54,7 +54,7 @@ returns-in_err-drain-in-None-next-clause-took g c =
     let i = c.loop.invariant in
     let mid = g.S.Collector.stands c.loop.collector in let last = g.S.Collector.stands c.drain.new.self in
     let drain = c.in_err-drain-in-None-next.ensures in
-    let merge = subst (λ (ls : List (List Searched)). IsMerge ls c.loop.delivered.out) i.lists
+    let merge = subst (λ (ls : List (List SearchedBlock)). IsMerge ls c.loop.delivered.out) i.lists
     c.in-None-next.ensures.none.1 in
     rw (p.1, p.2) (takes_delivered _ tt mid i.got.0 _ _ i.got.2 _ last c.args.delivered.lists c.args.delivered.out
     c.loop.delivered.out _ i.got.1 merge
@@ -66,7 +66,7 @@ returns-in-None-next-clause-took g c =
     let i = c.loop.invariant in
     let mid = g.S.Collector.stands c.loop.collector in let last = g.S.Collector.stands c.drain.new.self in
     let drain = c.in_ok-drain-in-None-next.ensures in
-    let merge = subst (λ (ls : List (List Searched)). IsMerge ls c.loop.delivered.out) i.lists
+    let merge = subst (λ (ls : List (List SearchedBlock)). IsMerge ls c.loop.delivered.out) i.lists
     c.in-None-next.ensures.none.1 in
     takes_delivered _ tt mid i.got.0 _ _ i.got.2 _ last c.args.delivered.lists c.args.delivered.out
     c.loop.delivered.out _ i.got.1 merge

@@ -1,6 +1,6 @@
 use Rattle.std.proofs.Common.{Ok, List, [], ◌∷◌, refl, sym, ◌∙◌, subst}
 use Rattle.std.proofs.lemmas.Result.{err_from_is_err_and}
-use Rattle.pg_selection.specs.Searched.{Searched}
+use Rattle.pg_selection.specs.Searched.{SearchedBlock}
 use Rattle.pg_round.specs.Receipts.{HasReceived, Takes}
 use Rattle.pg_round.proofs.ReceiptLemmas.{takes_none, takes_more}
 use Rattle.pg_reader.proofs.GoingLemmas.{gone_on_none, gone_on_more}
@@ -13,7 +13,8 @@ loop-init g c =
       more = (tt, tt);
       tray = c.requires.take.0;
       workers = refl;
-      took = subst (λ (l : List Searched). Takes {T = Unit {0}} (Ok tt) stands (HasReceived stands l) before before)
+      took = subst
+          (λ (l : List SearchedBlock). Takes {T = Unit {0}} (Ok tt) stands (HasReceived stands l) before before)
           (sym c.requires.take.1) (takes_none stands tt before);
       read = gone_on_none c.requires.reader;
     }
@@ -42,7 +43,7 @@ loop-preserved g c =
       more = (tt, tt);
       tray = took.tray.0;
       workers = took.tray.1 ∙ i.workers;
-      took = subst (λ (l : List Searched). Takes {T = Unit {0}} (Ok tt) stands (HasReceived last l) before after)
+      took = subst (λ (l : List SearchedBlock). Takes {T = Unit {0}} (Ok tt) stands (HasReceived last l) before after)
           (sym took.none) i.took;
       read = gone_on_more i.read c.read_on-looks.ensures;
     }
@@ -55,7 +56,7 @@ returns-then-is_over g c =
     let before = g.W.Sink.stream c.args.out.now in let after = g.W.Sink.stream c.loop.out in
     record {
       same = (took.tray.0, took.tray.1 ∙ i.workers);
-      took = subst (λ (l : List Searched). Takes {T = Unit {0}} (Ok tt) stands (HasReceived last l) before after)
+      took = subst (λ (l : List SearchedBlock). Takes {T = Unit {0}} (Ok tt) stands (HasReceived last l) before after)
           (sym took.none) i.took;
       fault = tt;
       read = i.read;

@@ -1,7 +1,7 @@
 use Rattle.std.proofs.Common.{Result, Ok, List, refl, sym, subst, arith}
 use Rattle.std.proofs.lemmas.List.Elements.{All-weaker}
 use Rattle.std.proofs.lemmas.Result.{err_from_is_err_and}
-use Rattle.pg_selection.specs.Searched.{Searched}
+use Rattle.pg_selection.specs.Searched.{SearchedBlock}
 use Rattle.pg_workers.specs.Workers.{task_of, HasWorked, HasFinished, AreBack}
 use Rattle.pg_round.specs.Receipts.{HasReceived, Takes}
 use Rattle.pg_round.specs.declared.fault.RoundFault.{RoundFault}
@@ -17,7 +17,7 @@ returns-then-len-lt2 g c =
     record {
       back = (refl, All-weaker (HasFinished t) (HasWorked t) (λ w h. h.0) c.args.workers.items c.requires.finished);
       same = (c.requires.take.0, refl);
-      took = subst (λ (l : List Searched). Takes (Ok c.args.workers) stands (HasReceived stands l) before before)
+      took = subst (λ (l : List SearchedBlock). Takes (Ok c.args.workers) stands (HasReceived stands l) before before)
           (sym c.requires.take.1) (takes_none stands c.args.workers before);
       read = gone_on_none c.requires.reader;
     }

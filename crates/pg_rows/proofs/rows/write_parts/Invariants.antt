@@ -7,7 +7,8 @@ use Rattle.pg_rows.proofs.rows.write_parts.Given as goal
 abbrev pub invariant-loop-part : goal.invariant-loop-part
 invariant-loop-part g l = record {
   prefix : l.prefix ≡ l.fn.prefix;
-  left : WritesAllBut (part_rows l.format l.end l.fn.prefix l.first.number l.first.offset l.cut l.bytes l.parts)
-      (part_rows l.format l.end l.fn.prefix l.first.number l.first.offset l.cut l.bytes (drop l.part-index l.parts))
-      (g.W.Sink.stream l.fn.out) (g.W.Sink.stream l.out);
+  left : WritesAllBut (part_rows l.format l.end l.fn.prefix l.lines.first.number l.lines.first.offset l.lines.count
+      l.bytes l.parts)
+      (part_rows l.format l.end l.fn.prefix l.lines.first.number l.lines.first.offset l.lines.count l.bytes
+      (drop l.part-index l.parts)) (g.W.Sink.stream l.fn.out) (g.W.Sink.stream l.out);
 }

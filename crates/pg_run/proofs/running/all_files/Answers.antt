@@ -1,5 +1,5 @@
 use Rattle.std.proofs.Common.{◌∙◌, Bool, List, inl, inr, sym, subst}
-use Rattle.pg_files.specs.Given.{Given, entries_given}
+use Rattle.pg_files.specs.Given.{FileOutcome, entries_given}
 use Rattle.pg_run.specs.Outcome.{EndsAtSelected}
 use Rattle.pg_run.specs.Reading.{GivesNext}
 use Rattle.pg_run.proofs.HoldLemmas.{fails_by}
@@ -39,7 +39,7 @@ returns-then-not-branch-clause-outcome g c = λ aim start.
     let G : Bool → Type 0 =
     GivesNext (g.F.Files.finds (g.F.Files.list c.take_next.new.files)) (g.F.Files.past c.loop.files) past' in
     let goes = subst G c.if-not-branch.true c.in_ok-take_next.ensures.goes in
-    let Q : List Given → Type 0 = λ gs. EndsAtSelected aim.query (entries_given gs) in
+    let Q : List FileOutcome → Type 0 = λ gs. EndsAtSelected aim.query (entries_given gs) in
     record {
       rests = c.in_ok-take_next.ensures.outcome aim r.0;
       asked = inl (goes.1, goes.2);

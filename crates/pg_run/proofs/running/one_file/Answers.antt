@@ -1,7 +1,7 @@
 use Rattle.std.proofs.Common.{◌≡◌, ◌∙◌, List, [], ◌∷◌, ◌++◌, ap, drop, refl, subst, sym}
 use Rattle.pg_base.specs.declared.cause.Cause.TheVariants.{ReadFailed}
 use Rattle.pg_base.specs.Entries.{Left}
-use Rattle.pg_files.specs.Given.{Given, File}
+use Rattle.pg_files.specs.Given.{FileOutcome, File}
 use Rattle.pg_run.specs.Told.{faults_of}
 use Rattle.pg_base.specs.Causes.{fault_line}
 use Rattle.pg_run.specs.Reading.{BreaksOffTold}
@@ -17,7 +17,7 @@ returns-then-engine-ge-MOST_FILES-clause-outcome g c = λ given new aim rests.
     let out' = g.W.Sink.stream c.break_off.new.out in
     let told = g.E.Sink.stream c.args.faults.now in
     let more = File new.0 [] Left ∷ given in
-    let P : List Given → Type 0 = λ gs. BreaksOffTold aim gs out' told c.break_off.result in
+    let P : List FileOutcome → Type 0 = λ gs. BreaksOffTold aim gs out' told c.break_off.result in
     subst P (sym new.1) (stops_reading aim given more out' told c.break_off.result
     (unnumbered rests.0 out' new.0 c.break_off.result c.if-engine-ge-MOST_FILES.true
     (c.break_off.ensures aim rests.0.steps rests.0.holds)) rests.1 refl)
@@ -36,7 +36,7 @@ pub returns-in_err-open_file-clause-outcome : goal.returns-in_err-open_file-clau
 returns-in_err-open_file-clause-outcome g c = λ given new aim rests.
     let out = g.W.Sink.stream c.args.out.now in
     let told = g.E.Sink.stream c.args.faults.now in
-    let P : List Given → Type 0 = λ gs. BreaksOffTold aim gs out told OutOfMemory in
+    let P : List FileOutcome → Type 0 = λ gs. BreaksOffTold aim gs out told OutOfMemory in
     let more = File new.0 [] Left ∷ given in
     fails_by c.from_residual.result _ _ c.from_residual.ensures.1
     (subst P (sym new.1)

@@ -1,5 +1,5 @@
 use Rattle.std.proofs.Common.{◌≡◌, ◌∙◌, List, ◌∷◌, ap, drop, inl, inr, subst, sym}
-use Rattle.pg_files.specs.Given.{Given, NoFile, FilesPast, newest_name}
+use Rattle.pg_files.specs.Given.{FileOutcome, NoFile, FilesPast, newest_name}
 use Rattle.pg_run.specs.Reading.{HasToldAll, BreaksOffTold}
 use Rattle.pg_run.specs.declared.fault.RunFault.TheVariants.{OutOfMemory}
 use Rattle.pg_run.proofs.HoldLemmas.{on_err_of, fails_by}
@@ -24,7 +24,7 @@ returns-in_ok-miss-in-Miss-clause-outcome g c = λ aim rests.
     let e = rw c.in-Miss.is at c.in_ok-next.ensures.ok in
     let is : (g.F.Files.past c.next.new.self).given ≡ NoFile e.0 c.in-Miss.cause ∷ given = ap (λ p. p.given) e.1 in
     let named : c.name.result.now ≡ e.0 = c.name.ensures ∙ ap newest_name is in
-    let P : List Given → Type 0 = λ gs. HasToldAll c.miss.new.engine aim gs out told' in
+    let P : List FileOutcome → Type 0 = λ gs. HasToldAll c.miss.new.engine aim gs out told' in
     subst P (sym (is ∙ ap (λ n. NoFile n c.in-Miss.cause ∷ given) (sym named)))
     (c.in_ok-miss-in-Miss.ensures given aim rests)
 
@@ -88,7 +88,7 @@ returns-in_err-miss-in-Miss-clause-outcome g c = λ aim rests.
     let is : (g.F.Files.past c.next.new.self).given ≡ NoFile e.0 c.in-Miss.cause ∷ given = ap (λ p. p.given) e.1 in
     let named : c.name.result.now ≡ e.0 = c.name.ensures ∙ ap newest_name is in
     let fault = c.in_err-miss-in-Miss.field-0.0 in
-    let P : List Given → Type 0 = λ gs. BreaksOffTold aim gs out told' fault in
+    let P : List FileOutcome → Type 0 = λ gs. BreaksOffTold aim gs out told' fault in
     fails_by c.from_residual-in_err-miss-in-Miss.result _ _ c.from_residual-in_err-miss-in-Miss.ensures.1
     (subst P (sym (is ∙ ap (λ n. NoFile n c.in-Miss.cause ∷ given) (sym named)))
     (c.in_err-miss-in-Miss.ensures given aim rests))

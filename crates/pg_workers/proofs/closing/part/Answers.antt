@@ -1,6 +1,6 @@
 use Rattle.std.proofs.Common.{◌≡◌, inl, inr, ⊎_elim, true, List, All, Any, [], ◌∷◌, ◌++◌, refl, sym, subst, arith}
 use Rattle.std.proofs.lemmas.Result.{err_from_is_err_and}
-use Rattle.pg_selection.specs.Searched.{Searched}
+use Rattle.pg_selection.specs.Searched.{SearchedBlock}
 use Rattle.pg_board.specs.Board.{SeatView}
 use Rattle.pg_board.specs.Tray.{PutView}
 use Rattle.pg_workers.specs.declared.worker.Worker.{Worker}
@@ -25,14 +25,14 @@ loop-worker-preserved g c =
     let same = c.apart-seat.ensures in let finished : P w = all_last P rest w all in
     let done : IsWork t seat pass =
     subst (λ (s : SeatView). IsWork t s pass) (sym same.0)
-    (subst (λ (p : PutView Searched A). IsWork t w.seat p) (sym same.1) (work_of t w finished)) in
+    (subst (λ (p : PutView SearchedBlock A). IsWork t w.seat p) (sym same.1) (work_of t w finished)) in
     let more = works_more t c.loop-worker.seats.items c.loop-worker.passes.items seat pass i.works done in
     let seats_spent : Any IsSpent (c.loop-worker.seats.items ++ seat ∷ [])
     → Any IsSpent c.push_reserved.new.self.items = subst (λ (l : List SeatView). Any IsSpent l) (sym s.items) in
     record {
       finished = all_front P rest w all;
       works = subst (λ (l : List SeatView). AreWorks t l c.push_reserved-in-Some.new.self.items) (sym s.items)
-          (subst (λ (l : List (PutView Searched A)). AreWorks t (c.loop-worker.seats.items ++ seat ∷ []) l)
+          (subst (λ (l : List (PutView SearchedBlock A)). AreWorks t (c.loop-worker.seats.items ++ seat ∷ []) l)
           (sym p.items) more);
       spent = ⊎_elim
           (λ before. ⊎_elim (λ left. inl left)

@@ -1,5 +1,5 @@
 use Rattle.std.proofs.Common.{◌≡◌, List, All, [], ◌∷◌, ◌++◌, false, None, refl, sym, subst, arith}
-use Rattle.pg_selection.specs.Searched.{Searched}
+use Rattle.pg_selection.specs.Searched.{SearchedBlock}
 use Rattle.pg_board.specs.Board.{SeatView, seat_view}
 use Rattle.pg_board.specs.Tray.{PutView, put_view}
 use Rattle.pg_workers.specs.declared.worker.Worker.{Worker}
@@ -14,13 +14,13 @@ loop-seat-preserved g c =
     let A : Type 0 = g.row.A.Denot in let C : Type 0 = g.row.C.Denot in
     let i = c.loop-seat.invariant in let pushed = c.push_reserved.ensures in
     let IsNewSeat : SeatView → Type 0 = λ s. s ≡ seat_view c.args.round.board.now [] false in
-    let IsNewPass : PutView Searched A → Type 0 = λ p. p ≡ put_view c.args.round.tray.now [] in
+    let IsNewPass : PutView SearchedBlock A → Type 0 = λ p. p ≡ put_view c.args.round.tray.now [] in
     let IsFit : C → Type 0 = (g.Q.BlockSearch.seen c.args.round.query.now).fits in
     let P : Worker A C → Type 0 = HasFinished (task_of g.Q.BlockSearch.seen c.args.round) in
     let seats : All IsNewSeat (c.pop.new.self.items ++ c.in-Some.seat ∷ []) =
     subst (λ (l : List SeatView). All IsNewSeat l) c.in-Some.ensures.items i.seats in
     let passes : All IsNewPass (c.pop-in-Some.new.self.items ++ c.in-Some-pop.pass ∷ []) =
-    subst (λ (l : List (PutView Searched A)). All IsNewPass l) c.in-Some-pop.ensures.items i.passes in
+    subst (λ (l : List (PutView SearchedBlock A)). All IsNewPass l) c.in-Some-pop.ensures.items i.passes in
     let fits : All IsFit (c.pop-in-Some-2.new.self.items ++ c.in-Some-pop-2.scratch ∷ []) =
     subst (λ (l : List C). All IsFit l) c.in-Some-pop-2.ensures.items i.fits in
     let seat : IsNewSeat c.in-Some.seat = all_last IsNewSeat c.pop.new.self.items c.in-Some.seat seats in

@@ -1,5 +1,5 @@
 use Rattle.std.proofs.Common.{◌≡◌, ◌+◌, ◌≤◌, [], false, All, vec_len, vec_capacity}
-use Rattle.pg_selection.specs.Searched.{Searched}
+use Rattle.pg_selection.specs.Searched.{SearchedBlock}
 use Rattle.pg_board.specs.Board.{SeatView, seat_view}
 use Rattle.pg_board.specs.Tray.{PutView, put_view}
 use Rattle.pg_workers.specs.Workers.{task_of, HasFinished}
@@ -8,7 +8,7 @@ use Rattle.pg_workers.proofs.opening.gather.Given as goal
 abbrev pub invariant-loop-seat : goal.invariant-loop-seat
 invariant-loop-seat g l = record {
   seats : All (λ (s : SeatView). s ≡ seat_view l.round.board.now [] false) l.seats.items;
-  passes : All (λ (p : PutView Searched g.row.A.Denot). p ≡ put_view l.round.tray.now []) l.passes.items;
+  passes : All (λ (p : PutView SearchedBlock g.row.A.Denot). p ≡ put_view l.round.tray.now []) l.passes.items;
   fits : All (g.Q.BlockSearch.seen l.round.query.now).fits l.scratches.items;
   same : vec_len l.passes ≡ vec_len l.seats;
   count : vec_len l.workers + vec_len l.seats ≡ vec_len l.initial.seats;

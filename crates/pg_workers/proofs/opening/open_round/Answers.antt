@@ -1,6 +1,6 @@
 use Rattle.std.proofs.Common.{◌≡◌, ◌∙◌, ℕ, List, All, [], false, length, replicate, refl, sym, subst, ap, arith}
 use Rattle.std.proofs.lemmas.List.{length-replicate}
-use Rattle.pg_selection.specs.Searched.{Searched}
+use Rattle.pg_selection.specs.Searched.{SearchedBlock}
 use Rattle.pg_board.specs.Board.{SeatView, seat_view}
 use Rattle.pg_board.specs.Tray.{PutView, put_view}
 use Rattle.pg_workers.proofs.ListLemmas.{all_copies}
@@ -19,12 +19,12 @@ gather-requires-clause-seats g c =
 
 pub gather-requires-clause-passes : goal.gather-requires-clause-passes
 gather-requires-clause-passes g c =
-    let new : PutView Searched g.row.A.Denot = put_view c.in_ok-tray.tray [] in
-    let IsNew : PutView Searched g.row.A.Denot → Type 0 = λ p. p ≡ new in
+    let new : PutView SearchedBlock g.row.A.Denot = put_view c.in_ok-tray.tray [] in
+    let IsNew : PutView SearchedBlock g.row.A.Denot → Type 0 = λ p. p ≡ new in
     let passes = length_copies c.in_ok-tray.passes.items c.args.count new c.in_ok-tray.ensures.passes in
     let seats = length_copies c.in_ok-board.seats.items c.args.count (seat_view c.in_ok-board.board [] false)
     c.in_ok-board.ensures.seats in (
-      subst (λ (l : List (PutView Searched g.row.A.Denot)). All IsNew l) (sym c.in_ok-tray.ensures.passes)
+      subst (λ (l : List (PutView SearchedBlock g.row.A.Denot)). All IsNew l) (sym c.in_ok-tray.ensures.passes)
           (all_copies IsNew c.args.count new refl),
       omega (arith, c.in_ok-board.seats.ok.0, c.in_ok-tray.passes.ok.0),
     )

@@ -1,7 +1,7 @@
 use Rattle.std.proofs.Common.{List, All, refl, sym, subst, arith}
 use Rattle.pg_workers.specs.declared.round.Round.{Round}
 use Rattle.pg_workers.specs.declared.worker.Worker.{Worker}
-use Rattle.pg_workers.specs.declared.starting.Started.{Started}
+use Rattle.pg_workers.specs.declared.starting.StartedWorker.{StartedWorker}
 use Rattle.pg_workers.specs.Workers.{task_of, HasWorked, IsStarted}
 use Rattle.pg_workers.proofs.ListLemmas.{all_more}
 use Rattle.pg_workers.proofs.starting.join_all.Goals.{in-Running, in-Ended}
@@ -13,7 +13,7 @@ loop-started-preserved g c =
     let A : Type 0 = g.row.A.Denot in let C : Type 0 = g.row.C.Denot in
     let i = c.loop-started.invariant in let pushed = c.push_reserved.ensures in
     let P : Worker A C → Type 0 = HasWorked (task_of g.Q.BlockSearch.seen c.args.round) in
-    let S : Type 0 = Started A C g.row.Q.Denot in
+    let S : Type 0 = StartedWorker A C g.row.Q.Denot in
     let Q : S → Type 0 = IsStarted g.Q.BlockSearch.seen c.args.round in
     let has : Q c.in-Some.started = all_last Q c.pop.new.self.items c.in-Some.started
     (subst (λ (l : List S). All Q l) c.in-Some.ensures.items i.started) in

@@ -1,6 +1,6 @@
 use Rattle.std.proofs.Common.{List, All, refl, ◌∙◌, sym, subst, arith}
 use Rattle.pg_workers.specs.declared.worker.Worker.{Worker}
-use Rattle.pg_workers.specs.declared.starting.Started.{Started}
+use Rattle.pg_workers.specs.declared.starting.StartedWorker.{StartedWorker}
 use Rattle.pg_workers.specs.Workers.{task_of, HasFinished, IsStarted}
 use Rattle.pg_workers.proofs.ListLemmas.{all_more, all_none}
 use Rattle.pg_board.proofs.CountLemmas.{all_front, all_last}
@@ -18,7 +18,7 @@ loop-workers-preserved g c =
     let A : Type 0 = g.row.A.Denot in let C : Type 0 = g.row.C.Denot in
     let i = c.loop-workers.invariant in let pushed = c.push_reserved.ensures in
     let P : Worker A C → Type 0 = HasFinished (task_of g.Q.BlockSearch.seen c.args.round) in
-    let S : Type 0 = Started A C g.row.Q.Denot in
+    let S : Type 0 = StartedWorker A C g.row.Q.Denot in
     let Q : S → Type 0 = IsStarted g.Q.BlockSearch.seen c.args.round in
     record {
       least = (let t = c.loop-workers-test.true in let n = c.len-in-loop-workers.ensures in let b =
@@ -38,7 +38,7 @@ start-requires-clause-ready g c κs within = c.requires.ready
 pub loop-workers-init : goal.loop-workers-init
 loop-workers-init g c =
     let A : Type 0 = g.row.A.Denot in let C : Type 0 = g.row.C.Denot in
-    let S : Type 0 = Started A C g.row.Q.Denot in
+    let S : Type 0 = StartedWorker A C g.row.Q.Denot in
     let Q : S → Type 0 = IsStarted g.Q.BlockSearch.seen c.args.round in
     let s = c.in-Ok.ensures in let a = s.len in let d = s.exact in let l = c.len.ensures in let q =
     c.requires.finished.1 in

@@ -1,6 +1,6 @@
 use Rattle.std.proofs.Common.{◌≤◌, ◌+◌, ◌^◌, ◌<◌, List, ℕ, length, subst, refl, arith}
 use Rattle.std.proofs.lemmas.Result.{err_from_is_err_and, IfOk-from_err}
-use Rattle.pg_blocks.specs.Cutter.{Fed, fed, FitsBehind, HasLongLine}
+use Rattle.pg_blocks.specs.Cutter.{CutterPast, fed, FitsBehind, HasLongLine}
 use Rattle.pg_blocks.proofs.BufferLemmas.{piece_is}
 use Rattle.pg_blocks.proofs.RoomLemmas.{on_err}
 use Rattle.pg_blocks.proofs.FaultLemmas.{fault_told, none_told, memory_not_file, memory_not_line, taken_not_refused}
@@ -8,10 +8,10 @@ use Rattle.pg_blocks.proofs.FaultLemmas.{told_of, piece_within, further}
 use Rattle.pg_blocks.proofs.cutter.Cutter.fill.Goals as goal
 
 -- a piece with which a file or a line is too long
-abbrev File : Fed → List ℕ → Type 0
+abbrev File : CutterPast → List ℕ → Type 0
 File past piece = 2 ^ 62 < length past.bytes + length piece
 
-abbrev Line : Fed → List ℕ → Type 0
+abbrev Line : CutterPast → List ℕ → Type 0
 Line past piece = (length past.bytes + length piece ≤ 2 ^ 62) × HasLongLine (fed past piece)
 
 -- a piece that the file can't go on with

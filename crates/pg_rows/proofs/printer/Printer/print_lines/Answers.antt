@@ -3,7 +3,7 @@ use Rattle.std.proofs.Common.{◌∙◌, subst, arith, length-drop}
 use Rattle.std.proofs.lemmas.List.{take_rest}
 use Rattle.std.proofs.lemmas.Result.{IfOk-from_err}
 use Rattle.pg_selection.specs.Search.{Search, terminator, terminator_of}
-use Rattle.pg_selection.specs.Searched.{Searched, lines_of}
+use Rattle.pg_selection.specs.Searched.{SearchedBlock, lines_of}
 use Rattle.pg_blocks.specs.Lines.{lines}
 use Rattle.pg_rows.specs.declared.format.Format.{Format}
 use Rattle.pg_rows.specs.declared.printer.Printer.{Printer}
@@ -29,7 +29,8 @@ record IsLeft (end : ℕ) (bytes cut : List ℕ) (place : Place) (total : ℕ) :
   within : place.seen ≤ total
 
 is_left : {A : Type 0} {s : Printer A} {q : Search} {format : Format} {c : Cursor} {before after : Stream}
-    {place : Place} (found : Searched) (bytes : List ℕ) (total : ℕ) → IsAtCursor s q format c → found.query ≡ q.text
+    {place : Place} (found : SearchedBlock) (bytes : List ℕ) (total : ℕ) → IsAtCursor s q format c
+    → found.query ≡ q.text
     → bytes ≡ found.block.bytes → total ≡ length (lines_of found)
     → ComesLast q format c (held (terminator q) s.window) found.block.bytes before after s.progress place
     → IsLeft s.end found.block.bytes (take (length bytes - place.at) (drop place.at bytes)) place total

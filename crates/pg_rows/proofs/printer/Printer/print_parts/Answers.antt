@@ -1,7 +1,7 @@
 use Rattle.std.proofs.Common.{◌≡◌, ℕ, ◌+◌, true, List, length, not, sym, ap, ◌∙◌, arith}
 use Rattle.std.proofs.lemmas.Bool.{and_parts, and_right, not_from_true}
 use Rattle.pg_selection.specs.Search.{Search, terminator, HasItsTrees}
-use Rattle.pg_selection.specs.Searched.{Searched, lines_of}
+use Rattle.pg_selection.specs.Searched.{SearchedBlock, lines_of}
 use Rattle.pg_selection.specs.Runs.{HasRuns}
 use Rattle.pg_selection.specs.BlockParts.{HasParts}
 use Rattle.pg_selection.specs.declared.run.Run.{Run}
@@ -50,8 +50,8 @@ write_parts-requires-clause-fits g c =
     }
 
 -- the rows of the parts are those that the block adds
-rows_same : {A : Type 0} (s : Printer A) (q : Search) (format : Format) (c : Cursor) (found : Searched) (bytes : List ℕ)
-    (runs : List Run) (parts : List Part) (total cut : ℕ) → IsAtCursor s q format c → HasItsTrees q
+rows_same : {A : Type 0} (s : Printer A) (q : Search) (format : Format) (c : Cursor) (found : SearchedBlock)
+    (bytes : List ℕ) (runs : List Run) (parts : List Part) (total cut : ℕ) → IsAtCursor s q format c → HasItsTrees q
     → found.query ≡ q.text → shows_parts s.format ≡ true → bytes ≡ found.block.bytes
     → HasRuns found.query found.block.bytes runs → HasParts found.query found.block.bytes parts
     → total ≡ length (lines_of found)

@@ -27,14 +27,14 @@ pub returns-in_err-print_unkept-clause-writes : goal.returns-in_err-print_unkept
 returns-in_err-print_unkept-clause-writes g c q takes =
     let a = c.args in
     let s = a.self.now in
-    let gap = gap_lines s a.bytes.now a.place a.run in
+    let gap = gap_lines s a.bytes.now a.place a.kept.run in
     let near = drop a.place.progress.countdown gap in
-    let kept_at : ℕ = s.offset + a.run.span.start in
+    let kept_at : ℕ = s.offset + a.kept.run.span.start in
     let passed = shown_passed s a.place.progress (s.offset + a.place.at) gap in
     let hyphens = gap_of s.format s.end s.earlier a.next.passed in
     let lead = shown_leading s near a.next.passed kept_at in
     let own = shown_kept q s (record { number = a.next.passed.number + 1; offset = kept_at })
-    (lines s.end (slice_range a.bytes.now a.run.span.start a.next.place.at)) in
+    (lines s.end (slice_range a.bytes.now a.kept.run.span.start a.next.place.at)) in
     let joins : (passed ++ (hyphens ++ lead)) ++ own ≡ passed ++ (hyphens ++ (lead ++ own)) = simp append_assoc in
     let shown : ℕ → List ℕ = λ o. passed ++ shown_before s near a.next.passed o in
     let P : List ℕ → Type 0 = λ xs. WritesPart xs (g.W.Sink.stream a.out.now)
@@ -42,7 +42,7 @@ returns-in_err-print_unkept-clause-writes g c q takes =
     writes_as ((passed ++ (hyphens ++ lead)) ++ own) (passed ++ (hyphens ++ (lead ++ own))) _ _ _ joins
     (writes_part ((passed ++ (hyphens ++ lead)) ++ own) _ _ c.from_residual.result c.from_residual.ensures.0
     (part_of_first (passed ++ (hyphens ++ lead)) own _ _ (subst P
-    (ap shown (kept_offset s.end s.offset a.bytes.now a.place a.run c.requires.may.next))
+    (ap shown (kept_offset s.end s.offset a.bytes.now a.place a.kept.run c.requires.may.next))
     c.in_err-print_unkept.ensures.writes.err)))
 
 pub returns-clause-writes : goal.returns-clause-writes
@@ -50,43 +50,43 @@ returns-clause-writes g c q takes =
     let a = c.args in
     let s = a.self.now in
     let t = c.print_unkept.new.self in
-    let gap = gap_lines s a.bytes.now a.place a.run in
+    let gap = gap_lines s a.bytes.now a.place a.kept.run in
     let near = drop a.place.progress.countdown gap in
-    let kept_at : ℕ = s.offset + a.run.span.start in
+    let kept_at : ℕ = s.offset + a.kept.run.span.start in
     let passed = shown_passed s a.place.progress (s.offset + a.place.at) gap in
     let hyphens = gap_of s.format s.end s.earlier a.next.passed in
     let lead = shown_leading s near a.next.passed kept_at in
     let own = shown_kept q s (record { number = a.next.passed.number + 1; offset = kept_at })
-    (lines s.end (slice_range a.bytes.now a.run.span.start a.next.place.at)) in
+    (lines s.end (slice_range a.bytes.now a.kept.run.span.start a.next.place.at)) in
     let joins : (passed ++ (hyphens ++ lead)) ++ own ≡ passed ++ (hyphens ++ (lead ++ own)) = simp append_assoc in
     let same = c.in_ok-print_unkept.ensures.same in
-    let kept = drop a.run.span.start (take a.next.place.at a.bytes.now) in
+    let kept = drop a.kept.run.span.start (take a.next.place.at a.bytes.now) in
     let rows : Printer g.row.A.Denot → List ℕ → List ℕ = λ p text. shown_kept q p
-    (record { number = a.next.passed.number + 1; offset = p.offset + a.run.span.start }) (lines p.end text) in
+    (record { number = a.next.passed.number + 1; offset = p.offset + a.kept.run.span.start }) (lines p.end text) in
     let P : Printer g.row.A.Denot → Type 0 = λ p. AreKeptParts q p (take a.next.place.at a.bytes.now)
-    a.run.span.start a.run.first (slice_range a.parts.now a.place.used a.next.place.used) in
+    a.kept.run.span.start a.kept.run.first (slice_range a.parts.now a.place.used a.next.place.used) in
     let shown : ℕ → List ℕ = λ o. passed ++ shown_before s near a.next.passed o in
     let Q : List ℕ → Type 0 = λ xs. WritesAll xs (g.W.Sink.stream a.out.now)
     (g.W.Sink.stream c.print_unkept.new.out) in
     writes_as ((passed ++ (hyphens ++ lead)) ++ own) (passed ++ (hyphens ++ (lead ++ own))) _ _ _ joins
     (writes_then (passed ++ (hyphens ++ lead)) own _ _ _ _ (subst Q
-    (ap shown (kept_offset s.end s.offset a.bytes.now a.place a.run c.requires.may.next))
+    (ap shown (kept_offset s.end s.offset a.bytes.now a.place a.kept.run c.requires.may.next))
     c.in_ok-print_unkept.ensures.writes.ok)
     (writes_as (rows t kept) own _ _ _ (ap (λ p. rows p kept) same
-    ∙ ap (rows s) (cut_bytes a.bytes.now a.run.span.start a.next.place.at c.requires.steps.ends.low))
+    ∙ ap (rows s) (cut_bytes a.bytes.now a.kept.run.span.start a.next.place.at c.requires.steps.ends.low))
     (c.print_kept.ensures.writes q (subst P (sym same) takes.told))))
 
 pub print_kept-requires-clause-fits : goal.print_kept-requires-clause-fits
 print_kept-requires-clause-fits g c =
     let a = c.args in
     let s = a.self.now in
-    let all = slice_range a.bytes.now a.run.span.start a.run.span.end in
-    let cut = cut_bytes a.bytes.now a.run.span.start a.next.place.at c.requires.steps.ends.low in
+    let all = slice_range a.bytes.now a.kept.run.span.start a.kept.run.span.end in
+    let cut = cut_bytes a.bytes.now a.kept.run.span.start a.next.place.at c.requires.steps.ends.low in
     let long = ap (λ xs. length (lines s.end xs)) cut ∙ (ap (λ xs. length xs) c.requires.steps.ends.kept
-    ∙ length-take-le a.count (lines s.end all) (omega (arith, c.requires.may.few, c.requires.may.next.count))) in
+    ∙ length-take-le a.kept.count (lines s.end all) (omega (arith, c.requires.may.few, c.requires.may.next.count))) in
     let P : Printer g.row.A.Denot → Type 0 = λ p. CanNumberRun
-    (record { number = a.next.passed.number + 1; offset = p.offset + a.run.span.start }) a.run.first
-    (length (lines p.end (drop a.run.span.start (take a.next.place.at a.bytes.now))))
+    (record { number = a.next.passed.number + 1; offset = p.offset + a.kept.run.span.start }) a.kept.run.first
+    (length (lines p.end (drop a.kept.run.span.start (take a.next.place.at a.bytes.now))))
     (length (take a.next.place.at a.bytes.now)) in
     let size = length-take-le a.next.place.at a.bytes.now
     (omega (arith, c.requires.steps.ends.high, c.requires.may.next.within)) in
@@ -101,14 +101,14 @@ print_unkept-requires-clause-leading g c =
     let a = c.args in
     let s = a.self.now in
     let P : ℕ → Type 0 = λ o. HasLeading s a.next.passed
-    (drop a.place.progress.countdown (gap_lines s a.bytes.now a.place a.run)) o in
-    subst P (sym (kept_offset s.end s.offset a.bytes.now a.place a.run c.requires.may.next)) c.requires.leading
+    (drop a.place.progress.countdown (gap_lines s a.bytes.now a.place a.kept.run)) o in
+    subst P (sym (kept_offset s.end s.offset a.bytes.now a.place a.kept.run c.requires.may.next)) c.requires.leading
 
 pub print_unkept-requires-clause-comes : goal.print_unkept-requires-clause-comes
 print_unkept-requires-clause-comes g c =
     let a = c.args in
     let may = c.requires.may in
-    let place = kept_offset a.self.now.end a.self.now.offset a.bytes.now a.place a.run may.next in
+    let place = kept_offset a.self.now.end a.self.now.offset a.bytes.now a.place a.kept.run may.next in
     record {
       counted = omega (arith, may.next.gap);
       small = omega (arith, may.small);

@@ -1,8 +1,8 @@
 use Rattle.std.proofs.Common.{◌≡◌, ◌∙◌, List, ◌∷◌, ℕ, Some, ap, sym, subst, refl, length, arith}
 use Rattle.std.proofs.lemmas.Result.{MatchResult-from_err, IfOk-from_err}
 use Rattle.pg_blocks.specs.Blocks.{BlockData}
-use Rattle.pg_selection.specs.Searched.{Searched}
-use Rattle.pg_rows.specs.declared.printer.Printed.{Printed}
+use Rattle.pg_selection.specs.Searched.{SearchedBlock}
+use Rattle.pg_rows.specs.declared.printer.PrintedBlock.{PrintedBlock}
 use Rattle.pg_rows.specs.declared.printer.Printer.{Printer}
 use Rattle.pg_rows.specs.Cursor.{Cursor}
 use Rattle.pg_rows.specs.Remembered.{IsAtCursor, IsRememberedBehind, behind_block, shown_rows}
@@ -19,13 +19,13 @@ use Rattle.pg_seq.proofs.DrainSteps.{here, none_ready, result_is, lines_fit, byt
 use Rattle.pg_seq.proofs.assembler.Assembler.print_next.Goals as goal
 
 -- the first slot has the result
-result_of : {A : Type 0} (buffer : ReorderBuffer A) (found : Searched) (slot : Slot A) (rest : List (Slot A))
+result_of : {A : Type 0} (buffer : ReorderBuffer A) (found : SearchedBlock) (slot : Slot A) (rest : List (Slot A))
     → HasResult buffer 0 found → buffer.slots.items ≡ slot ∷ rest → slot.result ≡ Some found
 result_of buffer found slot rest p e = ap (λ x. x.result) (heads (sym e ∙ p.slots)) ∙ p.result
 
 -- what is remembered behind a block, by the printer and the block as they are when it is given up
-passed : {A : Type 0} (s : Assembler A) (past : Past) (h : IsAfter s past) (printer : Printer A) (printed : Printed)
-    (b other : BlockData) → printer ≡ s.printer → b ≡ other
+passed : {A : Type 0} (s : Assembler A) (past : Past) (h : IsAfter s past) (printer : Printer A)
+    (printed : PrintedBlock) (b other : BlockData) → printer ≡ s.printer → b ≡ other
     → IsRememberedBehind s.printer past.query past.format (behind_block past.query past.format (here s past h) b.bytes)
     b.bytes printed
     → IsAtCursor printer past.query past.format (here s past h)

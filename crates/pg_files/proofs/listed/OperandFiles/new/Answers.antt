@@ -5,7 +5,7 @@ use Rattle.std.specs.String.{string_bytes}
 use Rattle.pg_walk.specs.Scopes.{scope_of}
 use Rattle.pg_walk.specs.Left.{BeginsWalk, HasGiven, spots_in}
 use Rattle.pg_files.proofs.ListedLemmas.{none_asked, none_newest, none_opened, none_spared}
-use Rattle.pg_files.proofs.listed.Listed.new.Goals as goal
+use Rattle.pg_files.proofs.listed.OperandFiles.new.Goals as goal
 
 pub invariant_of-result : goal.invariant_of-result
 invariant_of-result g c =

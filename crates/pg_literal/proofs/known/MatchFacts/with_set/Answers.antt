@@ -1,7 +1,7 @@
 use Rattle.std.proofs.Common.{refl}
 use Rattle.std.proofs.lemmas.Result.{IfOk-from_err}
 use Rattle.pg_literal.proofs.KnownLemmas.{extends_set}
-use Rattle.pg_literal.proofs.known.Known.with_set.Goals as goal
+use Rattle.pg_literal.proofs.known.MatchFacts.with_set.Goals as goal
 
 pub returns : goal.returns
 returns g c = λ fold.

@@ -2,7 +2,7 @@ use Rattle.std.proofs.Common.{Bool}
 use Rattle.pg_bytes.specs.ByteSets.{bytes}
 use Rattle.pg_pattern.specs.Patterns.{Set}
 use Rattle.pg_literal.specs.Known.{Repeats}
-use Rattle.pg_literal.proofs.known.Known.with_sets.Given as goal
+use Rattle.pg_literal.proofs.known.MatchFacts.with_sets.Given as goal
 
 -- the rounds so far stand in front
 abbrev pub invariant-loop-round : goal.invariant-loop-round

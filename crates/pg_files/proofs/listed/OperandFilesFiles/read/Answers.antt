@@ -3,7 +3,7 @@ use Rattle.std.specs.String.{string_bytes}
 use Rattle.pg_walk.specs.Scopes.{scope_of}
 use Rattle.pg_files.specs.Listed.{asked_for}
 use Rattle.pg_files.proofs.ListedLemmas.{opened_by_read, read_behind, read_by, same_sought, spared_by}
-use Rattle.pg_files.proofs.listed.ListedFiles.read.Goals as goal
+use Rattle.pg_files.proofs.listed.OperandFilesFiles.read.Goals as goal
 
 pub returns-clause-given : goal.returns-clause-given
 returns-clause-given g c =

@@ -9,7 +9,7 @@ use Rattle.pg_files.specs.Given.{names_in}
 use Rattle.pg_files.specs.Listed.{asked_for}
 use Rattle.pg_files.proofs.ListedLemmas.{all_given, asked_more, goes_on, next_opened, next_spared}
 use Rattle.pg_files.proofs.ListedLemmas.{none_more, one_more, same_begins}
-use Rattle.pg_files.proofs.listed.ListedFiles.next.Goals as goal
+use Rattle.pg_files.proofs.listed.OperandFilesFiles.next.Goals as goal
 
 pub invariant_of-self-in_default : goal.invariant_of-self-in_default
 invariant_of-self-in_default g c =

@@ -1,5 +1,5 @@
 use Rattle.std.proofs.Common.{add-one}
-use Rattle.pg_literal.proofs.known.Known.with_sets.Goals as goal
+use Rattle.pg_literal.proofs.known.MatchFacts.with_sets.Goals as goal
 
 pub loop-round-preserved : goal.loop-round-preserved
 loop-round-preserved g c = λ fold.

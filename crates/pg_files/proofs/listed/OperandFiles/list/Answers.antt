@@ -7,7 +7,7 @@ use Rattle.pg_walk.specs.Scopes.{scope_of}
 use Rattle.pg_walk.specs.Items.{found}
 use Rattle.pg_walk.specs.Left.{BeginsWalk, HasGiven, shown, spots_in}
 use Rattle.pg_files.proofs.ListedLemmas.{none_asked, none_newest, none_opened, none_spared}
-use Rattle.pg_files.proofs.listed.Listed.list.Goals as goal
+use Rattle.pg_files.proofs.listed.OperandFiles.list.Goals as goal
 
 pub invariant_of-self-2 : goal.invariant_of-self-2
 invariant_of-self-2 g c =
