@@ -7,7 +7,7 @@ use Rattle.std.specs.Result.{result_ok}
 use Rattle.std.proofs.lemmas.List.{get_or_read}
 use Rattle.std.proofs.lemmas.Option.{slice_get-get_or}
 use Rattle.std.proofs.lemmas.Bool.{cases_eq, cases_lt}
-use Rattle.std.proofs.Math.Nat.{mul-le-mul_left}
+use Rattle.std.proofs.Math.Nat.{add-mul, mul-le-mul_left}
 use Rattle.pg_match.specs.Automata.{Nfa, IsRunnable}
 use Rattle.pg_match.specs.StateSets.{Members, mark, listed, IsGood, Inserted}
 use Rattle.pg_match.specs.Steps.{Has, Goes, Starts, HitBefore, AnswersEnd, ReadsNone}
@@ -499,6 +499,12 @@ visits_small p n v le short few = let less : n ≤ 2 ^ 64 = omega arith in omega
 
 pub visits_later : (p h n v : ℕ) → v ≤ (p + 1) * n → p ≤ h → v ≤ (h + 1) * n
 visits_later p h n v le later = let more : p + 1 ≤ h + 1 = omega arith in omega (arith, mul-le-mul_left n more)
+
+-- what a search from a place may visit, and as many visits a state as bytes stand before the place
+pub visits_both : (p l n v w : ℕ) → p ≤ l → v ≤ (l - p + 1) * n → w ≤ p * n → v + w ≤ (l + 1) * n
+visits_both p l n v w within behind before =
+    let turns : p + (l - p + 1) ≡ l + 1 = omega arith in
+    subst (λ k. v + w ≤ k * n) turns (omega (arith, add-mul p (l - p + 1) n, before, behind))
 
 pub visits_on : (p h n v w : ℕ) → v ≤ (p + 1) * n → p ≤ h → w ≤ v + n → w ≤ (h + 1 + 1) * n
 visits_on p h n v w le later add = let more : p + 1 ≤ h + 1 = omega arith in omega (arith, mul-le-mul_left n more)

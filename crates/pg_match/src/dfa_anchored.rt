@@ -24,6 +24,9 @@ const TRIES: usize = 1_024;
 /// On long lines such a search takes long, so that more is remembered than what it needed.
 const PLACES: usize = 32;
 
+/// Where so many bytes stand behind a place, more is remembered of the runs that begin there before they are searched.
+const LONG: usize = 4_096;
+
 /// What remembered sets tell of the spans that begin at a place and have a byte.
 #[derive(Clone, Copy)]
 pub(crate) enum KnownSpan {
@@ -232,20 +235,27 @@ impl<A: Allocator> Automaton<A> {
         memory.add(&sets.current, accepts)
     }
 
-    /// Learns more of the runs that begin at a place of a line, as far as the visits allow.
-    fn study_from(&self, sets: &mut StateSets<A>, memory: &mut Cache<A>, line: &[u8], start: usize)
+    /// Learns more of the runs that begin at a place of a line, as long as there were at most `limit` visits a state.
+    fn study_from(
+        &self,
+        sets: &mut StateSets<A>,
+        memory: &mut Cache<A>,
+        line: &[u8],
+        start: usize,
+        limit: usize,
+    )
         requires built { IsBuilt self.now }
         requires room { HaveRoom (buffers sets.old) (length self.now.states.items) }
         requires memory { IsAnchoredMemoryOf (nfa self.now) (remembered memory.old) }
-        requires short { length line.now ≤ 2 ^ 30 }
-        requires visits { sets.old.visits ≤ (length line.now + 1) * length self.now.states.items }
+        requires short { limit ≤ 2 ^ 30 }
+        requires visits { sets.old.visits ≤ (limit + 1) * length self.now.states.items }
         ensures room { HaveRoom (buffers sets.new) (length self.now.states.items) }
         ensures memory { IsAnchoredMemoryOf (nfa self.now) (remembered memory.new) }
-        ensures visits { sets.new.visits ≤ (length line.now + 1) * length self.now.states.items }
+        ensures visits { sets.new.visits ≤ (limit + 1) * length self.now.states.items }
         ensures told { Tells sets.old sets.new }
     {
         let size = self.states.len() as u128;
-        let most = line.len() as u128 * size;
+        let most = limit as u128 * size;
         while memory.count < 2 {
             if sets.visits > most {
                 return;
@@ -269,29 +279,30 @@ impl<A: Allocator> Automaton<A> {
         }
     }
 
-    /// Learns more of the runs that begin at a place, and at the next places of which too little is remembered. Answers
-    /// whether the best span from there on is remembered now.
+    /// Learns more of the runs that begin at a place, and at the next places of which too little is remembered, as long
+    /// as there were at most `limit` visits a state. Answers whether the best span from there on is remembered now.
     fn study_starts(
         &self,
         sets: &mut StateSets<A>,
         memory: &mut Cache<A>,
         line: &[u8],
         start: usize,
+        limit: usize,
     ) -> bool
         requires built { IsBuilt self.now }
         requires room { HaveRoom (buffers sets.old) (length self.now.states.items) }
         requires memory { IsAnchoredMemoryOf (nfa self.now) (remembered memory.old) }
-        requires short { length line.now ≤ 2 ^ 30 }
+        requires short { limit ≤ 2 ^ 30 }
         requires start_in { start ≤ length line.now }
-        requires visits { sets.old.visits ≤ (length line.now + 1) * length self.now.states.items }
+        requires visits { sets.old.visits ≤ (limit + 1) * length self.now.states.items }
         ensures room { HaveRoom (buffers sets.new) (length self.now.states.items) }
         ensures memory { IsAnchoredMemoryOf (nfa self.now) (remembered memory.new) }
-        ensures visits { sets.new.visits ≤ (length line.now + 1) * length self.now.states.items }
+        ensures visits { sets.new.visits ≤ (limit + 1) * length self.now.states.items }
         ensures told { Tells sets.old sets.new }
     {
         let mut place = start;
         for _round in 0..PLACES {
-            self.study_from(sets, memory, line, place);
+            self.study_from(sets, memory, line, place, limit);
             let (next, end) = self.try_starts(memory, line, place);
             if end.is_some() {
                 return true;
@@ -324,11 +335,44 @@ impl<A: Allocator> Automaton<A> {
         ensures visits { sets.new.visits ≤ (length line.now + 1) * length self.now.states.items }
         ensures told { Tells sets.old sets.new }
     {
-        let is_known = self.study_starts(sets, memory, line, place);
+        let is_known = self.study_starts(sets, memory, line, place, line.len());
         match best {
-            Some((first, _)) if !is_known => self.study_from(sets, memory, line, first),
+            Some((first, _)) if !is_known => self.study_from(sets, memory, line, first, line.len()),
             _ => {}
         }
+    }
+
+    /// Before a search from a place with many bytes behind it, learns of the runs that begin there and behind it, as
+    /// long as there were at most as many visits a state as bytes stand before the place, where the search makes none.
+    /// Answers as `try_starts` does.
+    fn study_before(
+        &self,
+        sets: &mut StateSets<A>,
+        memory: &mut Cache<A>,
+        line: &[u8],
+        start: usize,
+    ) -> (usize, Option<usize>)
+        requires built { IsBuilt self.now }
+        requires room { HaveRoom (buffers sets.old) (length self.now.states.items) }
+        requires memory { IsAnchoredMemoryOf (nfa self.now) (remembered memory.old) }
+        requires short { length line.now ≤ 2 ^ 30 }
+        requires start_in { start ≤ length line.now }
+        ensures room { HaveRoom (buffers sets.new) (length self.now.states.items) }
+        ensures memory { IsAnchoredMemoryOf (nfa self.now) (remembered memory.new) }
+        ensures onward { (start ≤ result.0) × (result.0 ≤ length line.now) }
+        ensures nothing { NothingBefore (nfa self.now) line.now start result.0 }
+        ensures best { IfSome result.1 (λ end. IsBest self.now.states.items line.now self.now.start
+            (MayBegin self.now.bounds line.now) (MayEnd self.now.bounds line.now) result.0 (length line.now + 1)
+            (Some (result.0, end))) }
+        ensures visits { sets.new.visits ≤ result.0 * length self.now.states.items }
+        ensures told { added sets.new ≡ added sets.old + sets.new.visits }
+    {
+        sets.visits = 0;
+        if start == 0 || line.len() - start < LONG {
+            return (start, None);
+        }
+        self.study_starts(sets, memory, line, start, start - 1);
+        self.try_starts(memory, line, start)
     }
 
     /// The best span from a place on, by what is remembered of the runs that begin there and behind it, or else by runs
@@ -354,13 +398,20 @@ impl<A: Allocator> Automaton<A> {
         ensures visits { sets.new.visits ≤ (length line.now + 1) * length self.now.states.items }
         ensures told { added sets.new ≡ added sets.old + sets.new.visits }
     {
-        let (place, end) = self.try_starts(anchored, line, start);
+        let (known, end) = self.try_starts(anchored, line, start);
         if let Some(end) = end {
             sets.visits = 0;
+            return Some((known, end));
+        }
+        anchored.leave_room(memory.count.max(SETS / 2));
+        let (place, found) = self.study_before(sets, anchored, line, known);
+        memory.leave_room(anchored.count);
+        if let Some(end) = found {
             return Some((place, end));
         }
+        let learned = sets.visits;
         let best = self.find(sets, line, place);
-        anchored.leave_room(memory.count.max(SETS / 2));
+        sets.visits += learned;
         self.study_both(sets, anchored, line, place, best);
         memory.leave_room(anchored.count);
         best

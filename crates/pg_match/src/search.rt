@@ -1,5 +1,5 @@
 //! The search of a line, one place after the other.
-ghost use Rattle.std.specs.Prelude.{◌≡◌, ◌+◌, ◌*◌, ◌^◌, ◌<◌, ◌≤◌};
+ghost use Rattle.std.specs.Prelude.{◌≡◌, ◌+◌, ◌-◌, ◌*◌, ◌^◌, ◌<◌, ◌≤◌};
 ghost use Rattle.std.specs.Prelude.{length, is_none, IfOk, None};
 ghost use Rattle.pg_pattern.specs.Bounds.{MayBegin, MayEnd};
 ghost use Rattle.pg_match.specs.StateSets.{IsGood, HaveRoom};
@@ -195,7 +195,7 @@ impl<A: Allocator> Automaton<A> {
         ensures room { HaveRoom (buffers sets.new) (length self.now.states.items) }
         ensures best { IsBest self.now.states.items line.now self.now.start (MayBegin self.now.bounds line.now)
             (MayEnd self.now.bounds line.now) from (length line.now + 1) result }
-        ensures visits { sets.new.visits ≤ (length line.now + 1) * length self.now.states.items }
+        ensures visits { sets.new.visits ≤ (length line.now - from + 1) * length self.now.states.items }
         ensures told { added sets.new ≡ added sets.old + sets.new.visits }
     {
         self.enter(sets, line, from);

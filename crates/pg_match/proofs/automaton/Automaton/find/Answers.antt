@@ -11,9 +11,9 @@ visits_small p from n v le short few =
     let less : n ≤ 2 ^ 64 = omega arith in
     omega (arith, mul-le-mul_left (p - from + 1) less)
 
-visits_last : (p l from n v : ℕ) → p ≤ l → v ≤ (p - from + 1) * n → v ≤ (l + 1) * n
+visits_last : (p l from n v : ℕ) → p ≤ l → v ≤ (p - from + 1) * n → v ≤ (l - from + 1) * n
 visits_last p l from n v short le =
-    let turns : p - from + 1 ≤ l + 1 = omega arith in
+    let turns : p - from + 1 ≤ l - from + 1 = omega arith in
     omega (arith, mul-le-mul_left n turns)
 
 pub loop-place-init : goal.loop-place-init

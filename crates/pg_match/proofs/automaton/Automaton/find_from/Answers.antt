@@ -4,11 +4,12 @@ use Rattle.pg_pattern.specs.Bounds.{MayBegin, MayEnd}
 use Rattle.pg_match.specs.Searches.{IsBest}
 use Rattle.pg_match.specs.Views.{nfa}
 use Rattle.pg_match.proofs.AnchoredLemmas.{best_behind}
+use Rattle.pg_match.proofs.CacheLemmas.{visits_both, visits_small}
 use Rattle.pg_match.proofs.automaton.Automaton.find_from.Goals as goal
 
 pub returns-in-Some-clause-best : goal.returns-in-Some-clause-best
 returns-in-Some-clause-best g c =
-    let t = c.try_starts-place in
+    let t = c.try_starts-known in
     let m = nfa c.args.self.now in
     let line = c.args.line.now in
     let Ends : ℕ → Type 0 = λ e. IsBest m.states line m.start (MayBegin m.bounds line) (MayEnd m.bounds line) t.result.0
@@ -16,14 +17,43 @@ returns-in-Some-clause-best g c =
     best_behind m line c.args.start t.result.0 (Some (t.result.0, c.in-Some.end)) t.ensures.onward.0 t.ensures.nothing
     (subst (λ found. IfSome found Ends) c.in-Some.is t.ensures.best)
 
-pub study_both-requires-clause-memory : goal.study_both-requires-clause-memory
-study_both-requires-clause-memory g c = rw c.leave_room.ensures c.requires.anchored
+pub returns-in-Some-found-clause-best : goal.returns-in-Some-found-clause-best
+returns-in-Some-found-clause-best g c =
+    let t = c.try_starts-known in
+    let b = c.study_before-place in
+    let m = nfa c.args.self.now in
+    let line = c.args.line.now in
+    let best = Some (b.result.0, c.in-Some-found.end) in
+    let Ends : ℕ → Type 0 = λ e. IsBest m.states line m.start (MayBegin m.bounds line) (MayEnd m.bounds line) b.result.0
+    (length line + 1) (Some (b.result.0, e)) in
+    best_behind m line c.args.start t.result.0 best t.ensures.onward.0 t.ensures.nothing
+    (best_behind m line t.result.0 b.result.0 best b.ensures.onward.0 b.ensures.nothing
+    (subst (λ found. IfSome found Ends) c.in-Some-found.is b.ensures.best))
+
+pub overflow_add-sets : goal.overflow_add-sets
+overflow_add-sets g c =
+    let b = c.study_before-place in
+    let l = length c.args.line.now in
+    let size = c.args.self.now.states.ok.0 in
+    let both = visits_both b.result.0 l _ _ _ b.ensures.onward.1 c.find-best.ensures.visits b.ensures.visits in
+    let small = visits_small l (length c.args.self.now.states.items) _ both c.requires.short (omega arith) in
+    omega (arith, small)
+
+pub study_both-requires-clause-visits : goal.study_both-requires-clause-visits
+study_both-requires-clause-visits g c =
+    let b = c.study_before-place in
+    visits_both b.result.0 (length c.args.line.now) _ _ _ b.ensures.onward.1 c.find-best.ensures.visits b.ensures.visits
 
 pub returns-clause-best : goal.returns-clause-best
 returns-clause-best g c =
-    let t = c.try_starts-place in
-    best_behind (nfa c.args.self.now) c.args.line.now c.args.start t.result.0 c.find-best.result
-    t.ensures.onward.0 t.ensures.nothing c.find-best.ensures.best
+    let t = c.try_starts-known in
+    let b = c.study_before-place in
+    let m = nfa c.args.self.now in
+    let line = c.args.line.now in
+    best_behind m line c.args.start t.result.0 c.find-best.result t.ensures.onward.0 t.ensures.nothing
+    (best_behind m line t.result.0 b.result.0 c.find-best.result b.ensures.onward.0 b.ensures.nothing
+    c.find-best.ensures.best)
 
 pub returns-clause-told : goal.returns-clause-told
-returns-clause-told g c = omega (arith, c.find-best.ensures.told, c.study_both.ensures.told)
+returns-clause-told g c =
+    omega (arith, c.study_before-place.ensures.told, c.find-best.ensures.told, c.study_both.ensures.told)

@@ -8,7 +8,7 @@ abbrev pub invariant-loop-memory : goal.invariant-loop-memory
 invariant-loop-memory g l = record {
   room : HaveRoom (buffers l.sets) (length l.self.states.items);
   memory : IsAnchoredMemoryOf (nfa l.self) (remembered l.memory);
-  visits : l.sets.visits ≤ (length l.line + 1) * length l.self.states.items;
+  visits : l.sets.visits ≤ (l.limit + 1) * length l.self.states.items;
   told : Tells l.fn.sets l.sets;
 }
 
@@ -21,6 +21,6 @@ invariant-loop-place g l = record {
   memory : IsAnchoredMemoryOf (nfa l.self) (remembered l.memory);
   some : 2 ≤ l.memory.count;
   known : l.row ≤ l.memory.count;
-  visits : l.sets.visits ≤ (length l.line + 1) * length l.self.states.items;
+  visits : l.sets.visits ≤ (l.limit + 1) * length l.self.states.items;
   told : Tells l.fn.sets l.sets;
 }

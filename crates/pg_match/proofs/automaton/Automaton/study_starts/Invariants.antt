@@ -9,6 +9,6 @@ invariant-loop-round g l = record {
   room : HaveRoom (buffers l.sets) (length l.self.states.items);
   memory : IsAnchoredMemoryOf (nfa l.self) (remembered l.memory);
   within : l.place ≤ length l.line;
-  visits : l.sets.visits ≤ (length l.line + 1) * length l.self.states.items;
+  visits : l.sets.visits ≤ (l.limit + 1) * length l.self.states.items;
   told : Tells l.fn.sets l.sets;
 }
