@@ -7,8 +7,9 @@ use Rattle.std.proofs.lemmas.List.{get_or_read}
 use Rattle.std.proofs.lemmas.Option.{slice_get-get_or}
 use Rattle.std.proofs.lemmas.Bool.{cases_eq, cases_lt}
 use Rattle.pg_match.specs.Anchored.{GoesAlone, ToldAlone, IsAnchoredMemoryOf, start_row}
-use Rattle.pg_match.specs.Anchored.{NothingBefore, TellsKnownSpan, known_span_of}
-use Rattle.pg_match.specs.Automata.{Nfa, Edge, Runs, IsRunnable}
+use Rattle.pg_match.specs.Anchored.{NothingBefore, TellsKnownSpan, known_span_of, StandsFrom, NoEnd, IsLastEnd, Follows}
+use Rattle.pg_match.specs.Anchored.{IsLongestFrom}
+use Rattle.pg_match.specs.Automata.{Nfa, Runs, IsRunnable}
 use Rattle.pg_pattern.specs.Bounds.{MayBegin, MayEnd}
 use Rattle.pg_match.specs.Memories.{Remembered, ended, fresh_at, In, Same, IsShape, IsBlank, Keeps}
 use Rattle.pg_match.specs.Memories.{Grown, Marked, MarkedEnd, IsAtRow}
@@ -24,13 +25,6 @@ use Rattle.pg_match.proofs.CacheLemmas.{sets_shape, starts_same}
 use Rattle.pg_match.proofs.ScanLemmas.{no_cross}
 use Rattle.pg_match.proofs.StandsLemmas.{reads_edge, ends_here, ends_at_last, crossing}
 use Rattle.pg_match.proofs.StepLemmas.{edge_still}
-use Rattle.pg_match.specs.Closures.{Leads}
-
--- S holds the states at p of the runs that began at s
-pub record StandsFrom (m : Nfa) (l : List ℕ) (s p : ℕ) (S : ℕ → Type 0) : Type 0 where
-  pub sound : (q : ℕ) → S q → Leads m.states l m.start s q p
-  pub complete : (n j : ℕ) → Runs m.states l n m.start s j → p ≤ j → (q : ℕ) × (k : ℕ) × S q × Runs m.states l k q p j
-  pub closed : p < length l → (q r : ℕ) → S q → Edge (slice_get m.states q) l p r p → S r
 
 -- where no span may begin none does
 pub nothing_here : (m : Nfa) (l : List ℕ) (s : ℕ) → (MayBegin m.bounds l s → ⊥) → NothingBefore m l s (s + 1)
@@ -131,24 +125,118 @@ module _ (m : Nfa) (l : List ℕ) (s : ℕ) where
       → (n : ℕ) × Runs m.states l n m.start s p
   end_run p S is at h = at.sound 0 h 0 p (is.accept, refl)
 
--- no run from s ends where it may behind a place, up to another and before the line's end
-abbrev pub NoEnd : Nfa → List ℕ → ℕ → ℕ → ℕ → Type 0
-NoEnd m l s behind upto =
-    (n j : ℕ) → behind < j → j ≤ upto → j < length l → MayEnd m.bounds l j → Runs m.states l n m.start s j → ⊥
+-- how far the ends of the spans from s are known
+module _ (m : Nfa) (l : List ℕ) (s : ℕ) (is_m : IsRunnable m) where
+  -- no end is found behind a place whose set doesn't accept, or where none may be
+  no_end : (p behind : ℕ) (S : ℕ → Type 0) → StandsFrom m l s (p + 1) S → (S 0 → MayEnd m.bounds l (p + 1) → ⊥)
+      → NoEnd m l s behind p → NoEnd m l s behind (p + 1)
+  no_end p behind S at refused none n j later upto inside may run = elim (cases_eq j (p + 1)) [
+    | inl same ↦
+        refused (ends_at m l s (p + 1) S is_m at (omega arith) n
+        (subst (λ v. Runs m.states l n m.start s v) same run)) (subst (MayEnd m.bounds l) same may)
+    | inr other ↦ none n j later (omega arith) inside may run
+  ]
 
--- the last place behind s, up to p, where a run from s ends and may
-abbrev pub IsLastEnd : Nfa → List ℕ → ℕ → ℕ → Option ℕ → Type 0
-IsLastEnd m l s p None = NoEnd m l s s p
-IsLastEnd m l s p (Some e) =
-    (s < e) × (e ≤ p) × MayEnd m.bounds l e × ((n : ℕ) × Runs m.states l n m.start s e) × NoEnd m l s e p
+  pub not_found : (p : ℕ) (last : Option ℕ) (S : ℕ → Type 0) → StandsFrom m l s (p + 1) S
+      → (S 0 → MayEnd m.bounds l (p + 1) → ⊥) → IsLastEnd m l s p last → IsLastEnd m l s (p + 1) last
+  not_found p None S at refused f = no_end p s S at refused f
+  not_found p (Some e) S at refused f =
+      (f.0, omega (arith, f.1), f.2, f.3, no_end p e S at refused f.4)
 
--- in the middle of following the runs from s: the row of the state is the set of the place p
-pub record Follows (m : Nfa) (t : Remembered) (l : List ℕ) (s p state : ℕ) (last : Option ℕ) : Type 0 where
-  pub onward : s ≤ p
-  pub within : p ≤ length l
-  pub row : IsAtRow t state
-  pub stands : StandsFrom m l s p (In t (state / 256))
-  pub found : IsLastEnd m l s p last
+  -- the end that was found is the best one's, where no run ends behind p
+
+  pub best_end : (p : ℕ) (last : Option ℕ) → MayBegin m.bounds l s → IsLastEnd m l s p last → p ≤ length l
+      → ((n j : ℕ) → p < j → j ≤ length l → Runs m.states l n m.start s j → ⊥)
+      → (p ≡ length l → (n : ℕ) → Runs m.states l n m.start s p → ⊥) → IfSome last (IsLongestFrom m l s)
+  best_end p None begins f within none not_last = tt
+  best_end p (Some e) begins f within none not_last = (
+    omega arith,
+    f.0,
+    omega (arith, f.1),
+    (begins, f.2, f.3),
+    λ v j ge less inside run. (
+      ge,
+      λ same.
+          let here = subst (λ w. Runs m.states l run.2.0 m.start w j) same run.2.1 in
+          elim (cases_lt e j) [
+            | inl behind ↦ elim (cases_lt p j) [
+              | inl past ↦ absurd (none run.2.0 j past (omega arith) here)
+              | inr upto ↦ elim (cases_lt j (length l)) [
+                | inl before ↦ absurd (f.4 run.2.0 j behind (omega arith) before run.1 here)
+                | inr end ↦
+                    let is_p : j ≡ p = omega arith in
+                    absurd (not_last (omega arith) run.2.0
+                    (subst (λ w. Runs m.states l run.2.0 m.start s w) is_p here))
+              ]
+            ]
+            | inr upto ↦ upto
+          ],
+    ),
+  )
+
+  -- the same, or none begins at s where no end was found
+  pub begun_end : (p : ℕ) (last : Option ℕ) → MayBegin m.bounds l s → IsLastEnd m l s p last → p ≤ length l
+      → ((n j : ℕ) → p < j → j ≤ length l → Runs m.states l n m.start s j → ⊥)
+      → (p ≡ length l → (n : ℕ) → Runs m.states l n m.start s p → ⊥) → TellsKnownSpan m l s (known_span_of last p)
+  begun_end p None begins f within none not_last = λ i j ge lt less inside run.
+      let same : i ≡ s = omega arith in
+      let here = subst (λ w. Runs m.states l run.2.0 m.start w j) same run.2.1 in
+      elim (cases_lt p j) [
+        | inl past ↦ none run.2.0 j past (omega arith) here
+        | inr upto ↦ elim (cases_lt j (length l)) [
+          | inl before ↦ f run.2.0 j (omega arith) upto before run.1 here
+          | inr end ↦
+              let is_p : j ≡ p = omega arith in
+              not_last (omega arith) run.2.0 (subst (λ w. Runs m.states l run.2.0 m.start s w) is_p here)
+        ]
+      ]
+  begun_end p (Some e) begins f within none not_last = best_end p (Some e) begins f within none not_last
+
+  -- an end is found at the next place
+  pub end_found : (p : ℕ) (S : ℕ → Type 0) → StandsFrom m l s (p + 1) S → s ≤ p → S 0 → MayEnd m.bounds l (p + 1)
+      → IsLastEnd m l s (p + 1) (Some (p + 1))
+  end_found p S at onward h may = (
+    omega (arith, onward),
+    omega arith,
+    may,
+    end_run m l s (p + 1) S is_m at h,
+    λ n j later upto. absurd (omega arith),
+  )
+
+  -- no run is left behind p
+  pub none_left : (p : ℕ) (last : Option ℕ) (U : ℕ → Type 0) → StandsFrom m l s (p + 1) U → ((q : ℕ) → U q → ⊥)
+      → IsLastEnd m l s p last → p < length l → MayBegin m.bounds l s → TellsKnownSpan m l s (known_span_of last p)
+  none_left p last U at none f lt begins =
+      begun_end p last begins f (omega arith)
+      (λ n j past inside run. let c = at.complete n j run (omega arith) in none c.0 c.2) (λ e. absurd (omega arith))
+
+  -- no match ends where the line does
+  pub begun_no_more : (p : ℕ) (last : Option ℕ) (S : ℕ → Type 0) → StandsFrom m l s p S → IsLastEnd m l s p last
+      → p ≡ length l → MayBegin m.bounds l s → s < length l → NoHitAtEnd m false S
+      → TellsKnownSpan m l s (known_span_of last p)
+  begun_no_more p last S at f end begins inside missed =
+      begun_end p last begins f (omega arith) (λ n j past upto run. absurd (omega arith))
+      (λ e n run.
+      let here = subst (λ w. StandsFrom m l s w S) end at in
+      let last_run = subst (λ w. Runs m.states l n m.start s w) end run in
+      let c = here.complete n (length l) last_run (omega arith) in
+      missed l c.0 c.1 c.2 (λ z. absurd (omega arith)) c.3)
+
+  -- one does
+  pub best_at_end : (p : ℕ) (S : ℕ → Type 0) → StandsFrom m l s p S → p ≡ length l → MayBegin m.bounds l s
+      → s < length l → HitAtEnd m false S → IsLongestFrom m l s p
+  best_at_end p S at end begins inside h =
+      let here = subst (λ w. StandsFrom m l s w S) end at in
+      let zero_run = h.2 l (length l) (λ z. absurd (true≢false (sym z))) (λ z. refl) 0 (length l)
+      (is_m.accept, refl) in
+      let run = here.sound h.0 h.1 zero_run.0 (length l) zero_run.1 in
+      subst (IsLongestFrom m l s) (sym end) (
+        omega arith,
+        inside,
+        omega arith,
+        (begins, ends_at_last m.bounds l, run),
+        λ v j ge less within other. (ge, λ same. omega arith),
+      )
 
 module _ (m : Nfa) (t : Remembered) (is : IsAnchoredMemoryOf m t) where
   pub in_steps : (state b : ℕ) → IsAtRow t state → b < 256 → state + b < length t.steps
@@ -207,22 +295,6 @@ module _ (m : Nfa) (t : Remembered) (is : IsAnchoredMemoryOf m t) where
       found = λ n j behind upto. absurd (omega arith);
     }
 
-    -- no end is found behind a place whose set doesn't accept, or where none may be
-    no_end : (p behind : ℕ) (S : ℕ → Type 0) → StandsFrom m l s (p + 1) S → (S 0 → MayEnd m.bounds l (p + 1) → ⊥)
-        → NoEnd m l s behind p → NoEnd m l s behind (p + 1)
-    no_end p behind S at refused none n j later upto inside may run = elim (cases_eq j (p + 1)) [
-      | inl same ↦
-          refused (ends_at m l s (p + 1) S is_m at (omega arith) n
-          (subst (λ v. Runs m.states l n m.start s v) same run)) (subst (MayEnd m.bounds l) same may)
-      | inr other ↦ none n j later (omega arith) inside may run
-    ]
-
-    not_found : (p : ℕ) (last : Option ℕ) (S : ℕ → Type 0) → StandsFrom m l s (p + 1) S
-        → (S 0 → MayEnd m.bounds l (p + 1) → ⊥) → IsLastEnd m l s p last → IsLastEnd m l s (p + 1) last
-    not_found p None S at refused f = no_end p s S at refused f
-    not_found p (Some e) S at refused f =
-        (f.0, omega (arith, f.1), f.2, f.3, no_end p e S at refused f.4)
-
     module _ (p at v : ℕ) (last : Option ℕ) (f : Follows m t l s p at last) (byte : get_or l p 0 < 256)
         (lt : p < length l) (read : v ≡ get_or t.steps (at + get_or l p 0) v) (big : 256 ≤ v) where
       cell : v ≡ slice_index t.steps (at + get_or l p 0)
@@ -252,7 +324,7 @@ module _ (m : Nfa) (t : Remembered) (is : IsAnchoredMemoryOf m t) where
         within = omega arith;
         row = step.0;
         stands = stands;
-        found = not_found p last (In t (v / 256)) stands (λ h. refused ((accepts flag flagged).1 h)) f.found;
+        found = not_found m l s is_m p last (In t (v / 256)) stands (λ h. refused ((accepts flag flagged).1 h)) f.found;
       }
 
       -- and where one is
@@ -263,65 +335,8 @@ module _ (m : Nfa) (t : Remembered) (is : IsAnchoredMemoryOf m t) where
         within = omega arith;
         row = step.0;
         stands = stands;
-        found = (
-          omega (arith, f.onward),
-          omega arith,
-          may,
-          end_run m l s (p + 1) (In t (v / 256)) is_m stands ((accepts flag flagged).0 is_so),
-          λ n j later upto. absurd (omega arith),
-        );
+        found = end_found m l s is_m p (In t (v / 256)) stands f.onward ((accepts flag flagged).0 is_so) may;
       }
-
-    -- the end that was found is the best one's, where no run ends behind p
-    abbrev IsEnd : ℕ → Type 0
-    IsEnd e = IsBest m.states l m.start (MayBegin m.bounds l) (MayEnd m.bounds l) s (length l + 1) (Some (s, e))
-
-    best_end : (p : ℕ) (last : Option ℕ) → MayBegin m.bounds l s → IsLastEnd m l s p last → p ≤ length l
-        → ((n j : ℕ) → p < j → j ≤ length l → Runs m.states l n m.start s j → ⊥)
-        → (p ≡ length l → (n : ℕ) → Runs m.states l n m.start s p → ⊥) → IfSome last IsEnd
-    best_end p None begins f within none not_last = tt
-    best_end p (Some e) begins f within none not_last = (
-      omega arith,
-      f.0,
-      omega (arith, f.1),
-      (begins, f.2, f.3),
-      λ v j ge less inside run. (
-        ge,
-        λ same.
-            let here = subst (λ w. Runs m.states l run.2.0 m.start w j) same run.2.1 in
-            elim (cases_lt e j) [
-              | inl behind ↦ elim (cases_lt p j) [
-                | inl past ↦ absurd (none run.2.0 j past (omega arith) here)
-                | inr upto ↦ elim (cases_lt j (length l)) [
-                  | inl before ↦ absurd (f.4 run.2.0 j behind (omega arith) before run.1 here)
-                  | inr end ↦
-                      let is_p : j ≡ p = omega arith in
-                      absurd (not_last (omega arith) run.2.0
-                      (subst (λ w. Runs m.states l run.2.0 m.start s w) is_p here))
-                ]
-              ]
-              | inr upto ↦ upto
-            ],
-      ),
-    )
-
-    -- the same, or none begins at s where no end was found
-    begun_end : (p : ℕ) (last : Option ℕ) → MayBegin m.bounds l s → IsLastEnd m l s p last → p ≤ length l
-        → ((n j : ℕ) → p < j → j ≤ length l → Runs m.states l n m.start s j → ⊥)
-        → (p ≡ length l → (n : ℕ) → Runs m.states l n m.start s p → ⊥) → TellsKnownSpan m l s (known_span_of last p)
-    begun_end p None begins f within none not_last = λ i j ge lt less inside run.
-        let same : i ≡ s = omega arith in
-        let here = subst (λ w. Runs m.states l run.2.0 m.start w j) same run.2.1 in
-        elim (cases_lt p j) [
-          | inl past ↦ none run.2.0 j past (omega arith) here
-          | inr upto ↦ elim (cases_lt j (length l)) [
-            | inl before ↦ f run.2.0 j (omega arith) upto before run.1 here
-            | inr end ↦
-                let is_p : j ≡ p = omega arith in
-                not_last (omega arith) run.2.0 (subst (λ w. Runs m.states l run.2.0 m.start s w) is_p here)
-          ]
-        ]
-    begun_end p (Some e) begins f within none not_last = best_end p (Some e) begins f within none not_last
 
     pub begun_dead : (p at v : ℕ) (last : Option ℕ) → Follows m t l s p at last → MayBegin m.bounds l s
         → get_or l p 0 < 256 → p < length l → v ≡ get_or t.steps (at + get_or l p 0) v → v ≡ 2
@@ -330,38 +345,12 @@ module _ (m : Nfa) (t : Remembered) (is : IsAnchoredMemoryOf m t) where
         let b = get_or l p 0 in
         let cell = get_or_read t.steps _ v (in_steps at b f.row byte) read 0 in
         let none = dead_behind at v b f.row byte cell two in
-        begun_end p last begins f.found f.within
+        begun_end m l s is_m p last begins f.found f.within
         (λ n j past inside run.
         let c = f.stands.complete n j run (omega arith) in
         no_cross m l p b (In t (at / 256)) (slice_get-get_or l p 0 lt) (f.stands.closed lt) none c.1 c.0 j c.2 c.3
         (omega arith))
         (λ e. absurd (omega arith))
-
-    pub begun_no_more : (at p : ℕ) (last : Option ℕ) → Follows m t l s p at last → MayBegin m.bounds l s
-        → p ≡ length l → s < length l → NoHitAtEnd m false (In t (at / 256))
-        → TellsKnownSpan m l s (known_span_of last p)
-    begun_no_more at p last f begins end inside missed =
-        begun_end p last begins f.found f.within (λ n j past upto run. absurd (omega arith))
-        (λ e n run.
-        let here = subst (λ w. StandsFrom m l s w (In t (at / 256))) end f.stands in
-        let last_run = subst (λ w. Runs m.states l n m.start s w) end run in
-        let c = here.complete n (length l) last_run (omega arith) in
-        missed l c.0 c.1 c.2 (λ z. absurd (omega arith)) c.3)
-
-    pub best_at_end : (at p : ℕ) (last : Option ℕ) → Follows m t l s p at last → MayBegin m.bounds l s
-        → p ≡ length l → s < length l → HitAtEnd m false (In t (at / 256)) → IsEnd p
-    best_at_end at p last f begins end inside h =
-        let here = subst (λ w. StandsFrom m l s w (In t (at / 256))) end f.stands in
-        let zero_run = h.2 l (length l) (λ z. absurd (true≢false (sym z))) (λ z. refl) 0 (length l)
-        (is_m.accept, refl) in
-        let run = here.sound h.0 h.1 zero_run.0 (length l) zero_run.1 in
-        subst IsEnd (sym end) (
-          omega arith,
-          inside,
-          omega arith,
-          (begins, ends_at_last m.bounds l, run),
-          λ v j ge less within other. (ge, λ same. omega arith),
-        )
 
   -- what a row's answer at a line's end says
   pub ends_told : (r : ℕ) (read : Option Bool) (told answer : Bool) → read ≡ ended t r → read ≡ Some told

@@ -348,6 +348,15 @@ sets_shape n old new s w steps ends =
 pub mark_keeps : (old new : Remembered) (i v : ℕ) → Marked old new i v → Keeps old new
 mark_keeps old new i v w = sets_keep old new w.sets
 
+pub keeps_on : (old mid new : Remembered) → Keeps old mid → Keeps mid new → Keeps old new
+keeps_on old mid new k n =
+    let more = k.more in
+    record {
+      sets = λ r le. same_on (In old r) (In mid r) (In new r) (k.sets r le) (n.sets r (omega arith));
+      fresh = λ r le. n.fresh r (omega arith) ∙ k.fresh r le;
+      more = omega (arith, more, n.more);
+    }
+
 -- where a byte leads was written
 pub memory_marked : (m : Nfa) (old new : Remembered) (r b v : ℕ) → IsMemoryOf m old → Marked old new (256 * r + b) v
     → r ≤ old.count → b < 256

@@ -11,5 +11,6 @@ pub mod CacheLemmas
 pub mod ScanLemmas
 pub mod CursorLemmas
 pub mod AnchoredLemmas
+pub mod SingleStartLemmas
 pub mod BuildLemmas
 pub mod SizeLemmas

@@ -1,11 +1,12 @@
 -- Sets of states.
-use Rattle.std.proofs.Common.{◌≡◌, ◌≢◌, ℕ, suc, ◌+◌, ◌<◌, ◌≤◌, inl, inr, Bool, not, cond, eqb, List, [], ◌∷◌, length}
+use Rattle.std.proofs.Common.{◌≡◌, ◌≢◌, ℕ, suc, ◌+◌, ◌-◌, ◌<◌, ◌≤◌, inl, inr, Bool, not, cond, eqb, List, [], ◌∷◌, length}
 use Rattle.std.proofs.Common.{get_or, set, refl, sym, ap, ◌∙◌, arith, length-set, get_or-set_same, get_or-set_other}
 use Rattle.std.proofs.Common.{ne_eqb}
 use Rattle.std.specs.Prelude.{count_by, slice_index}
 use Rattle.std.proofs.lemmas.Bool.{cases_eq, cases_lt}
 use Rattle.std.proofs.lemmas.List.{get_or_past, get_or_read}
 use Rattle.std.proofs.lemmas.List.Sums.{sum_by-set, sum_by-cons, count_by-le-length}
+use Rattle.pg_match.specs.Closures.{IsOrdered}
 use Rattle.pg_match.specs.StateSets.{Members, mark, listed, IsGood, Inserted}
 
 abbrev is_set : ℕ → Bool
@@ -116,3 +117,13 @@ read_thread t k x y good lt read_x read_y =
     let e = read_listed t k x good lt read_x in
     let inside = listed_in t k good lt in
     (e, read_at t x y (omega (arith, e)) read_y ∙ ap (mark t) e, inside, good.is_in k lt)
+
+-- where the marks of the first and the last state are one, all are
+pub only_mark : (t : Members) (m : ℕ) → IsGood t → IsOrdered t → 0 < t.len → mark t (listed t 0) ≡ m
+    → mark t (listed t (t.len - 1)) ≡ m → (q : ℕ) → 0 < mark t q → mark t q ≡ m
+only_mark t m good ordered some first last q h =
+    let f = good.found q h in
+    let low = ordered 0 f.0 (omega arith) f.1 in
+    let high = ordered f.0 (t.len - 1) (omega (arith, f.1)) (omega (arith, some)) in
+    let is = ap (mark t) f.2 in
+    omega (arith, low, high, is, first, last)

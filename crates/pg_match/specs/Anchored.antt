@@ -1,10 +1,11 @@
 -- Sets of the runs that began at one place, and where each byte leads from them: the table of anchored searches.
-use Rattle.std.specs.Prelude.{◌≡◌, ℕ, zero, suc, ◌+◌, ◌*◌, ◌<◌, ◌≤◌, ◌⊎◌, ◌↔◌, Bool, true, false, List, length, Some}
+use Rattle.std.specs.Prelude.{◌≡◌, ℕ, zero, suc, ◌+◌, ◌*◌, ◌/◌, ◌<◌, ◌≤◌, ◌⊎◌, ◌↔◌, Bool, true, false, List, length, Some}
 use Rattle.std.specs.Prelude.{slice_get, slice_index}
 use Rattle.std.specs.Prelude.{Option, None}
-use Rattle.pg_match.specs.Automata.{Nfa}
+use Rattle.pg_match.specs.Automata.{Nfa, Edge, Runs}
+use Rattle.pg_match.specs.Closures.{Leads}
 use Rattle.pg_pattern.specs.Bounds.{MayBegin, MayEnd}
-use Rattle.pg_match.specs.Memories.{Remembered, In, IsShape, IsUnknown, fresh_at, ended}
+use Rattle.pg_match.specs.Memories.{Remembered, In, IsShape, IsUnknown, IsAtRow, fresh_at, ended}
 use Rattle.pg_match.specs.Steps.{Reads, LeadsStill, IsStill, Starts, ReadsNone, AnswersEnd}
 use Rattle.pg_match.specs.Searches.{IsBest, RunsFrom}
 use Rattle.pg_match.specs.declared.dfa_anchored.KnownSpan.{KnownSpan}
@@ -47,11 +48,15 @@ NothingBefore m l from place =
     (i j : ℕ) → from ≤ i → i < place → i < j → j < length l + 1
     → RunsFrom m.states l m.start (MayBegin m.bounds l) (MayEnd m.bounds l) i j → ⊥
 
+-- the longest of the spans with a byte that begin at s ends at e
+abbrev pub IsLongestFrom : Nfa → List ℕ → ℕ → ℕ → Type 0
+IsLongestFrom m l s e =
+    IsBest m.states l m.start (MayBegin m.bounds l) (MayEnd m.bounds l) s (length l + 1) (Some (s, e))
+
 -- what is told of the spans with a byte that begin at a place: where the longest one ends, or that there is none, or
 -- nothing
 abbrev pub TellsKnownSpan : Nfa → List ℕ → ℕ → KnownSpan → Type 0
-TellsKnownSpan m l s (Longest e) =
-    IsBest m.states l m.start (MayBegin m.bounds l) (MayEnd m.bounds l) s (length l + 1) (Some (s, e))
+TellsKnownSpan m l s (Longest e) = IsLongestFrom m l s e
 TellsKnownSpan m l s (Nothing known) = NothingBefore m l s (s + 1)
 TellsKnownSpan m l s Unknown = Unit {0}
 
@@ -59,3 +64,41 @@ TellsKnownSpan m l s Unknown = Unit {0}
 abbrev pub known_span_of : Option ℕ → ℕ → KnownSpan
 known_span_of None place = Nothing place
 known_span_of (Some e) place = Longest e
+
+-- S holds the states at p of the runs that began at s
+pub record StandsFrom (m : Nfa) (l : List ℕ) (s p : ℕ) (S : ℕ → Type 0) : Type 0 where
+  pub sound : (q : ℕ) → S q → Leads m.states l m.start s q p
+  pub complete : (n j : ℕ) → Runs m.states l n m.start s j → p ≤ j → (q : ℕ) × (k : ℕ) × S q × Runs m.states l k q p j
+  pub closed : p < length l → (q r : ℕ) → S q → Edge (slice_get m.states q) l p r p → S r
+
+-- no run from s ends where it may behind a place, up to another and before the line's end
+abbrev pub NoEnd : Nfa → List ℕ → ℕ → ℕ → ℕ → Type 0
+NoEnd m l s behind upto =
+    (n j : ℕ) → behind < j → j ≤ upto → j < length l → MayEnd m.bounds l j → Runs m.states l n m.start s j → ⊥
+
+-- the last place behind s, up to p, where a run from s ends and may
+abbrev pub IsLastEnd : Nfa → List ℕ → ℕ → ℕ → Option ℕ → Type 0
+IsLastEnd m l s p None = NoEnd m l s s p
+IsLastEnd m l s p (Some e) =
+    (s < e) × (e ≤ p) × MayEnd m.bounds l e × ((n : ℕ) × Runs m.states l n m.start s e) × NoEnd m l s e p
+
+-- in the middle of following the runs from s: the row of the state is the set of the place p
+pub record Follows (m : Nfa) (t : Remembered) (l : List ℕ) (s p state : ℕ) (last : Option ℕ) : Type 0 where
+  pub onward : s ≤ p
+  pub within : p ≤ length l
+  pub row : IsAtRow t state
+  pub stands : StandsFrom m l s p (In t (state / 256))
+  pub found : IsLastEnd m l s p last
+
+-- the runs from s were followed to p, whose set S is
+pub record Tracks (m : Nfa) (l : List ℕ) (s p last : ℕ) (S : ℕ → Type 0) : Type 0 where
+  pub begins : MayBegin m.bounds l s
+  pub onward : s ≤ p
+  pub within : p ≤ length l
+  pub stands : StandsFrom m l s p S
+  pub found : IsLastEnd m l s p (Some last)
+
+-- S is the set of p in a search from a place on whose best span so far is this one, and no better one begins elsewhere
+abbrev pub IsAlone : Nfa → List ℕ → ℕ → ℕ → (ℕ → Type 0) → Option (ℕ × ℕ) → Type 0
+IsAlone m l from p S None = ⊥
+IsAlone m l from p S (Some b) = (from ≤ b.0) × NothingBefore m l from b.0 × Tracks m l b.0 p b.1 S

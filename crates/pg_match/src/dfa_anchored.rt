@@ -24,8 +24,9 @@ const TRIES: usize = 1_024;
 /// On long lines such a search takes long, so that more is remembered than what it needed.
 const PLACES: usize = 32;
 
-/// Where so many bytes stand behind a place, more is remembered of the runs that begin there before they are searched.
-const LONG: usize = 4_096;
+/// Where so many bytes stand behind a place, a search from there learns: before it begins, as far as the bytes before the
+/// place pay for it, and once the runs of one start alone are left.
+pub(crate) const LONG: usize = 4_096;
 
 /// What remembered sets tell of the spans that begin at a place and have a byte.
 #[derive(Clone, Copy)]
@@ -131,7 +132,7 @@ impl<A: Allocator> Automaton<A> {
     }
 
     /// The row of a set, or 0 where there is no room.
-    fn keep_alone(&self, memory: &mut Cache<A>, set: &StateSet<A>) -> usize
+    pub(crate) fn keep_alone(&self, memory: &mut Cache<A>, set: &StateSet<A>) -> usize
         requires built { IsBuilt self.now }
         requires memory { IsAnchoredMemoryOf (nfa self.now) (remembered memory.old) }
         requires good { IsGood (members set.now) }
@@ -155,7 +156,7 @@ impl<A: Allocator> Automaton<A> {
     }
 
     /// The row that a byte leads to from a row, if it is known or there is room to remember it.
-    fn learn_alone(
+    pub(crate) fn learn_alone(
         &self,
         sets: &mut StateSets<A>,
         memory: &mut Cache<A>,
@@ -170,6 +171,7 @@ impl<A: Allocator> Automaton<A> {
         requires visits { sets.old.visits < 2 ^ 99 }
         ensures room { HaveRoom (buffers sets.new) (length self.now.states.items) }
         ensures memory { IsAnchoredMemoryOf (nfa self.now) (remembered memory.new) }
+        ensures keeps { Keeps (remembered memory.old) (remembered memory.new) }
         ensures some { 2 ≤ memory.new.count }
         ensures known { IfSome result (λ next. next ≤ memory.new.count) }
         ensures visits { sets.new.visits ≤ sets.old.visits + length self.now.states.items }
@@ -218,7 +220,7 @@ impl<A: Allocator> Automaton<A> {
     }
 
     /// Adds the next of the first two rows, those of a start, if there is room.
-    fn first_alone(&self, sets: &mut StateSets<A>, memory: &mut Cache<A>) -> bool
+    pub(crate) fn first_alone(&self, sets: &mut StateSets<A>, memory: &mut Cache<A>) -> bool
         requires built { IsBuilt self.now }
         requires room { HaveRoom (buffers sets.old) (length self.now.states.items) }
         requires memory { IsAnchoredMemoryOf (nfa self.now) (remembered memory.old) }
@@ -227,6 +229,7 @@ impl<A: Allocator> Automaton<A> {
         ensures room { HaveRoom (buffers sets.new) (length self.now.states.items) }
         ensures memory { IsAnchoredMemoryOf (nfa self.now) (remembered memory.new) }
         ensures more { IsTrue result → memory.old.count < memory.new.count }
+        ensures next { members sets.new.next ≡ members sets.old.next }
         ensures visits { sets.new.visits ≤ sets.old.visits + length self.now.states.items }
         ensures told { Tells sets.old sets.new }
     {
@@ -410,7 +413,7 @@ impl<A: Allocator> Automaton<A> {
             return Some((place, end));
         }
         let learned = sets.visits;
-        let best = self.find(sets, line, place);
+        let best = self.find_long(sets, anchored, line, place);
         sets.visits += learned;
         self.study_both(sets, anchored, line, place, best);
         memory.leave_room(anchored.count);

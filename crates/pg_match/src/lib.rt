@@ -24,6 +24,7 @@ mod dfa_starts;
 mod machine;
 mod nfa_search;
 mod search;
+mod single_start;
 mod size;
 mod sparse_set;
 mod starts;

@@ -117,6 +117,7 @@ impl<A: Allocator> Automaton<A> {
         requires visits { sets.old.visits < 2 ^ 100 }
         ensures room { HaveRoom (buffers sets.new) (length self.now.states.items) }
         ensures starts { Starts (nfa self.now) first (Has (members sets.new.current)) }
+        ensures next { members sets.new.next ≡ members sets.old.next }
         ensures visits { sets.new.visits ≡ sets.old.visits + sets.new.current.len }
         ensures told { Tells sets.old sets.new }
     {

@@ -1,8 +1,10 @@
 //! The search of a line, one place after the other.
 ghost use Rattle.std.specs.Prelude.{◌≡◌, ◌+◌, ◌-◌, ◌*◌, ◌^◌, ◌<◌, ◌≤◌};
-ghost use Rattle.std.specs.Prelude.{length, is_none, IfOk, None};
+ghost use Rattle.std.specs.Prelude.{ℕ, length, is_none, IfOk, IfNone, IfSome, IsTrue, None, is_some, true};
 ghost use Rattle.pg_pattern.specs.Bounds.{MayBegin, MayEnd};
-ghost use Rattle.pg_match.specs.StateSets.{IsGood, HaveRoom};
+ghost use Rattle.pg_match.specs.Anchored.{IsAlone};
+ghost use Rattle.pg_match.specs.StateSets.{IsGood, HaveRoom, mark};
+ghost use Rattle.pg_match.specs.Steps.{Has};
 ghost use Rattle.pg_match.specs.Closures.{IsClosed, IsOrdered, AllBelow};
 ghost use Rattle.pg_match.specs.Starts.{SeedsStepped};
 ghost use Rattle.pg_match.specs.Searches.{Alive, Advanced, IsBest, start_bound, judged, limit_of, ending};
@@ -108,7 +110,7 @@ impl<A: Allocator> Automaton<A> {
 
     /// The mark of the match that ends at `place`, or 0.
     #[inline(always)]
-    fn ending(&self, set: &StateSet<A>, line: &[u8], place: usize) -> u32
+    pub(crate) fn ending(&self, set: &StateSet<A>, line: &[u8], place: usize) -> u32
         requires built { IsBuilt self.now }
         requires size { length set.now.marks.items ≡ length self.now.states.items }
         requires place { place ≤ length line.now }
@@ -181,6 +183,69 @@ impl<A: Allocator> Automaton<A> {
         sets.visits += sets.current.len as u128;
     }
 
+    /// Whether all runs in a set began where the best span so far does, and so few states were visited since a search
+    /// began, so many bytes before, that four visits a state are to spare.
+    #[inline(always)]
+    fn is_alone(&self, sets: &StateSets<A>, best: Option<(usize, usize)>, passed: usize) -> bool
+        requires good { IsGood (members sets.now.current) }
+        requires ordered { IsOrdered (members sets.now.current) }
+        requires limit { limit_of best < 2 ^ 32 }
+        requires short { passed ≤ 2 ^ 30 }
+        requires visits { sets.now.visits < 2 ^ 100 }
+        ensures alone { IsTrue result → (is_some best ≡ true) × ((q : ℕ) → 0 < mark (members sets.now.current) q
+            → mark (members sets.now.current) q ≡ limit_of best) }
+        ensures spare { IsTrue result
+            → sets.now.visits + 4 * length self.now.states.items ≤ passed * length self.now.states.items }
+    {
+        let size = self.states.len() as u128;
+        best.is_some()
+            && sets.current.has_only(limit(best))
+            && sets.visits + 4 * size <= passed as u128 * size
+    }
+
+    /// The best span from a place on, by runs of the automaton, unless the runs of one start alone are left at a place
+    /// before `far`, and there are visits to spare: then the best one so far, and the place.
+    pub(crate) fn find_until(
+        &self,
+        sets: &mut StateSets<A>,
+        line: &[u8],
+        from: usize,
+        far: usize,
+    ) -> (Option<(usize, usize)>, Option<usize>)
+        requires built { IsBuilt self.now }
+        requires room { HaveRoom (buffers sets.old) (length self.now.states.items) }
+        requires short { length line.now ≤ 2 ^ 30 }
+        requires from_in { from ≤ length line.now }
+        ensures room { HaveRoom (buffers sets.new) (length self.now.states.items) }
+        ensures best { IfNone result.1 (IsBest self.now.states.items line.now self.now.start
+            (MayBegin self.now.bounds line.now) (MayEnd self.now.bounds line.now) from (length line.now + 1) result.0) }
+        ensures left { IfSome result.1 (λ place. (place < far)
+            × IsAlone (nfa self.now) line.now from place (Has (members sets.new.current)) result.0) }
+        ensures visits { sets.new.visits ≤ (length line.now - from + 1) * length self.now.states.items }
+        ensures spare { IfSome result.1 (λ place. sets.new.visits + 4 * length self.now.states.items
+            ≤ (place - from) * length self.now.states.items) }
+        ensures told { added sets.new ≡ added sets.old + sets.new.visits }
+    {
+        self.enter(sets, line, from);
+        let mut best = None;
+        for place in from..line.len() {
+            best = judge(place, self.ending(&sets.current, line, place), best);
+            if best.is_some() && sets.current.is_over() {
+                return (best, None);
+            }
+            if place < far && self.is_alone(sets, best, place - from) {
+                return (best, Some(place));
+            }
+            self.advance(sets, line, place, best);
+        }
+        let last = judge(
+            line.len(),
+            self.ending(&sets.current, line, line.len()),
+            best,
+        );
+        (last, None)
+    }
+
     /// The best span from a place on, by runs of the automaton.
     pub(crate) fn find(
         &self,
@@ -198,19 +263,7 @@ impl<A: Allocator> Automaton<A> {
         ensures visits { sets.new.visits ≤ (length line.now - from + 1) * length self.now.states.items }
         ensures told { added sets.new ≡ added sets.old + sets.new.visits }
     {
-        self.enter(sets, line, from);
-        let mut best = None;
-        for place in from..line.len() {
-            best = judge(place, self.ending(&sets.current, line, place), best);
-            if best.is_some() && sets.current.is_over() {
-                return best;
-            }
-            self.advance(sets, line, place, best);
-        }
-        judge(
-            line.len(),
-            self.ending(&sets.current, line, line.len()),
-            best,
-        )
+        let (best, _) = self.find_until(sets, line, from, 0);
+        best
     }
 }

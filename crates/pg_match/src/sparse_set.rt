@@ -1,5 +1,6 @@
 //! The set of states of one place of a line.
 ghost use Rattle.std.specs.Prelude.{◌≡◌, ◌<◌, ℕ, IfOk, IsTrue, length, take};
+ghost use Rattle.pg_match.specs.Closures.{IsOrdered};
 ghost use Rattle.pg_match.specs.StateSets.{IsGood, Inserted, Counted, IsEmpty, mark};
 
 use pg_base::History;
@@ -77,6 +78,21 @@ impl<A: Allocator> StateSet<A> {
         ensures { IsTrue result → (q : ℕ) → 0 < mark (members self.now) q → q ≡ 0 }
     {
         self.len == 0 || self.len == 1 && self.order[0] == 0
+    }
+
+    /// Whether all states have this mark. They were added in the order of their marks.
+    #[inline(always)]
+    pub fn has_only(&self, start: u32) -> bool
+        requires good { IsGood (members self.now) }
+        requires ordered { IsOrdered (members self.now) }
+        ensures { IsTrue result → (q : ℕ) → 0 < mark (members self.now) q → mark (members self.now) q ≡ start }
+    {
+        if self.len == 0 {
+            return false;
+        }
+        let first = self.order[0];
+        let last = self.order[self.len - 1];
+        self.marks[first as usize] == start && self.marks[last as usize] == start
     }
 
     /// Adds a state with a mark, unless it is there. This alone is counted as a visit.

@@ -35,14 +35,14 @@ overflow_add-sets g c =
     let b = c.study_before-place in
     let l = length c.args.line.now in
     let size = c.args.self.now.states.ok.0 in
-    let both = visits_both b.result.0 l _ _ _ b.ensures.onward.1 c.find-best.ensures.visits b.ensures.visits in
+    let both = visits_both b.result.0 l _ _ _ b.ensures.onward.1 c.find_long-best.ensures.visits b.ensures.visits in
     let small = visits_small l (length c.args.self.now.states.items) _ both c.requires.short (omega arith) in
     omega (arith, small)
 
 pub study_both-requires-clause-visits : goal.study_both-requires-clause-visits
 study_both-requires-clause-visits g c =
     let b = c.study_before-place in
-    visits_both b.result.0 (length c.args.line.now) _ _ _ b.ensures.onward.1 c.find-best.ensures.visits b.ensures.visits
+    visits_both b.result.0 (length c.args.line.now) _ _ _ b.ensures.onward.1 c.find_long-best.ensures.visits b.ensures.visits
 
 pub returns-clause-best : goal.returns-clause-best
 returns-clause-best g c =
@@ -50,10 +50,10 @@ returns-clause-best g c =
     let b = c.study_before-place in
     let m = nfa c.args.self.now in
     let line = c.args.line.now in
-    best_behind m line c.args.start t.result.0 c.find-best.result t.ensures.onward.0 t.ensures.nothing
-    (best_behind m line t.result.0 b.result.0 c.find-best.result b.ensures.onward.0 b.ensures.nothing
-    c.find-best.ensures.best)
+    best_behind m line c.args.start t.result.0 c.find_long-best.result t.ensures.onward.0 t.ensures.nothing
+    (best_behind m line t.result.0 b.result.0 c.find_long-best.result b.ensures.onward.0 b.ensures.nothing
+    c.find_long-best.ensures.best)
 
 pub returns-clause-told : goal.returns-clause-told
 returns-clause-told g c =
-    omega (arith, c.study_before-place.ensures.told, c.find-best.ensures.told, c.study_both.ensures.told)
+    omega (arith, c.study_before-place.ensures.told, c.find_long-best.ensures.told, c.study_both.ensures.told)

@@ -3,7 +3,7 @@ use Rattle.pg_match.specs.Memories.{In}
 use Rattle.pg_match.specs.Steps.{Has}
 use Rattle.pg_match.specs.Views.{nfa, members, remembered}
 use Rattle.pg_match.proofs.AnchoredLemmas.{alone_marked, told_alone, gone_alone, read_by_none, none_same}
-use Rattle.pg_match.proofs.CacheLemmas.{same_back}
+use Rattle.pg_match.proofs.CacheLemmas.{keeps_on, mark_keeps, same_back}
 use Rattle.pg_match.proofs.automaton.Automaton.learn_alone.Goals as goal
 
 pub returns-then-sets-eq0-clause-memory : goal.returns-then-sets-eq0-clause-memory
@@ -45,3 +45,17 @@ returns-clause-memory g c =
     c.mark-2.ensures (omega arith) (omega arith)
     (told_alone m old mid c.args.row c.args.byte k _ s u refl some c.keep_alone-to.ensures.known c.requires.known
     c.keep_alone-to.ensures.keeps c.load.ensures.same goes (c.keep_alone-to.ensures.same some))
+
+pub returns-then-to-eq0-clause-keeps : goal.returns-then-to-eq0-clause-keeps
+returns-then-to-eq0-clause-keeps g c =
+    let mid = remembered c.keep_alone-to.new.memory in
+    let new = remembered c.mark-then-to-eq0.new.self in
+    keeps_on (remembered c.args.memory.now) mid new c.keep_alone-to.ensures.keeps
+    (mark_keeps mid new _ _ c.mark-then-to-eq0.ensures)
+
+pub returns-clause-keeps : goal.returns-clause-keeps
+returns-clause-keeps g c =
+    let mid = remembered c.keep_alone-to.new.memory in
+    let new = remembered c.mark-2.new.self in
+    keeps_on (remembered c.args.memory.now) mid new c.keep_alone-to.ensures.keeps
+    (mark_keeps mid new _ _ c.mark-2.ensures)

@@ -1,5 +1,6 @@
 use Rattle.std.proofs.Common.{◌/◌, ◌<◌, ◌∙◌, length, arith, sym, true≢false, true, false, None}
 use Rattle.std.proofs.lemmas.List.{get_or_read}
+use Rattle.pg_match.specs.Memories.{In}
 use Rattle.pg_match.specs.Views.{nfa, remembered}
 use Rattle.pg_match.proofs.AnchoredLemmas.{start_row_few, follows_first, follows_on, follows_end, in_flags, in_rows}
 use Rattle.pg_match.proofs.AnchoredLemmas.{begun_dead, begun_no_more, best_at_end, ends_told, nothing_here}
@@ -66,8 +67,8 @@ returns-then-is_end g c =
       c.requires.memory.shape.ends_size,
     ) in
     let told = get_or_read t.ends (at / 256) c.index-2.result.now inside c.index-2.ensures None in
-    best_at_end m t c.requires.memory c.args.line.now c.args.start c.requires.built.runs at c.loop-place.place
-    c.loop-place.last f (c.may_begin.ensures.0 c.if-not-may_begin.false) (omega arith) (omega arith)
+    best_at_end m c.args.line.now c.args.start c.requires.built.runs c.loop-place.place (In t (at / 256)) f.stands
+    (omega arith) (c.may_begin.ensures.0 c.if-not-may_begin.false) (omega arith)
     (ends_told m t c.requires.memory (at / 256) c.index-2.result.now c.in-Some.is_end true told c.in-Some.is
     c.if-is_end.true)
 
@@ -83,9 +84,9 @@ returns-else-is_end g c =
       c.requires.memory.shape.ends_size,
     ) in
     let told = get_or_read t.ends (at / 256) c.index-2.result.now inside c.index-2.ensures None in
-    rw c.outcome_at-else-is_end.ensures (begun_no_more m t c.requires.memory c.args.line.now c.args.start
-    c.requires.built.runs at c.loop-place.place c.loop-place.last f (c.may_begin.ensures.0 c.if-not-may_begin.false)
-    (omega arith) (omega arith)
+    rw c.outcome_at-else-is_end.ensures (begun_no_more m c.args.line.now c.args.start c.requires.built.runs
+    c.loop-place.place c.loop-place.last (In t (at / 256)) f.stands f.found (omega arith)
+    (c.may_begin.ensures.0 c.if-not-may_begin.false) (omega arith)
     (ends_told m t c.requires.memory (at / 256) c.index-2.result.now c.in-Some.is_end false told c.in-Some.is
     c.if-is_end.false))
 

@@ -1,6 +1,6 @@
 use Rattle.std.proofs.Common.{◌-◌, length}
 use Rattle.pg_match.specs.Views.{nfa, remembered}
-use Rattle.pg_match.proofs.AnchoredLemmas.{Follows}
+use Rattle.pg_match.specs.Anchored.{Follows}
 use Rattle.pg_match.proofs.automaton.Automaton.longest.Given as goal
 
 abbrev pub invariant-loop-place : goal.invariant-loop-place

@@ -3,8 +3,10 @@ use Rattle.std.proofs.Math.Nat.{mul-le-mul_left}
 use Rattle.pg_match.specs.Searches.{judged}
 use Rattle.pg_match.specs.Views.{nfa, buffers, members}
 use Rattle.pg_match.proofs.StateSetLemmas.{few}
+use Rattle.pg_pattern.specs.Bounds.{MayBegin}
 use Rattle.pg_match.proofs.SearchLemmas.{Searching, settled, searched, search_over}
-use Rattle.pg_match.proofs.automaton.Automaton.find.Goals as goal
+use Rattle.pg_match.proofs.SingleStartLemmas.{alive_below, left_alone}
+use Rattle.pg_match.proofs.automaton.Automaton.find_until.Goals as goal
 
 visits_small : (p from n v : ℕ) → v ≤ (p - from + 1) * n → p ≤ 2 ^ 30 → n < 2 ^ 64 → v < 2 ^ 100
 visits_small p from n v le short few =
@@ -87,4 +89,22 @@ returns-clause-best g c =
     let search = subst (λ p. Searching m l c.args.from p (buffers c.loop-place.sets) c.loop-place.best) end
     c.loop-place.invariant.search in
     (settled m l c.args.from (length l) (buffers c.loop-place.sets) c.loop-place.best c.requires.built.runs search
-    c.judge.result (c.judge.ensures ∙ ap (λ k. judged (length l) k c.loop-place.best) c.ending-2.ensures)).1
+    c.judge-last.result (c.judge-last.ensures ∙ ap (λ k. judged (length l) k c.loop-place.best) c.ending-2.ensures)).1
+
+pub advance-requires-clause-below : goal.advance-requires-clause-below
+advance-requires-clause-below g c =
+    let m = nfa c.args.self.now in
+    alive_below m c.args.line.now (MayBegin m.bounds c.args.line.now) c.args.from c.loop-place.place
+    (members c.loop-place.sets.current) c.loop-place.best c.loop-place.invariant.search.alive
+
+pub returns-then-is_alone-clause-left : goal.returns-then-is_alone-clause-left
+returns-then-is_alone-clause-left g c =
+    let m = nfa c.args.self.now in
+    let l = c.args.line.now in
+    let p = c.loop-place.place in
+    let s = buffers c.loop-place.sets in
+    let best = c.judge-best.result in
+    let both = settled m l c.args.from p s c.loop-place.best c.requires.built.runs c.loop-place.invariant.search best
+    (c.judge-best.ensures ∙ ap (λ k. judged p k c.loop-place.best) c.ending.ensures) in
+    let is = c.is_alone.ensures.alone c.if-is_alone.true in
+    (c.if-place-far.true, left_alone m l c.args.from p s.current best both.0 both.1 (omega arith) is.0 is.1)

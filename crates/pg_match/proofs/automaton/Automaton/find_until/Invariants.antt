@@ -1,7 +1,7 @@
 use Rattle.std.proofs.Common.{◌≡◌, ◌+◌, ◌-◌, ◌*◌, ◌≤◌, length}
 use Rattle.pg_match.specs.Views.{nfa, buffers, added}
 use Rattle.pg_match.proofs.SearchLemmas.{Searching}
-use Rattle.pg_match.proofs.automaton.Automaton.find.Given as goal
+use Rattle.pg_match.proofs.automaton.Automaton.find_until.Given as goal
 
 abbrev pub invariant-loop-place : goal.invariant-loop-place
 invariant-loop-place g l = record {

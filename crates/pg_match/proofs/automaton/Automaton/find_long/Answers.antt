@@ -1,0 +1,36 @@
+use Rattle.std.proofs.Common.{◌-◌, ◌+◌, ◌*◌, ◌<◌, ◌≤◌, Some, arith, length, subst}
+use Rattle.std.specs.Option.{IfSome}
+use Rattle.pg_match.specs.Anchored.{IsAlone}
+use Rattle.pg_match.specs.Steps.{Has}
+use Rattle.pg_match.specs.Views.{nfa, members}
+use Rattle.pg_match.proofs.AnchoredLemmas.{best_behind}
+use Rattle.pg_match.proofs.SingleStartLemmas.{visits_spared}
+use Rattle.pg_match.proofs.automaton.Automaton.find_long.Goals as goal
+
+pub returns-clause-best : goal.returns-clause-best
+returns-clause-best g c =
+    let m = nfa c.args.self.now in
+    let l = c.args.line.now in
+    let S = Has (members c.find_until-best.new.sets.current) in
+    let left = subst (λ o. IfSome o (λ place. (place < c.saturating_sub-far.result)
+    × IsAlone m l c.args.from place S c.find_until-best.result.0)) c.in-Some.is c.find_until-best.ensures.left in
+    let alone = subst (λ b. IsAlone m l c.args.from c.in-Some.place S b) c.in_ok-start.was left.1 in
+    best_behind m l c.args.from c.in_ok-start.start (Some (c.in_ok-start.start, c.track.result)) alone.0 alone.1
+    c.track.ensures.longest
+
+pub returns-clause-visits : goal.returns-clause-visits
+returns-clause-visits g c =
+    let n = length c.args.self.now.states.items in
+    let l = length c.args.line.now in
+    let place = c.in-Some.place in
+    let before = c.find_until-best.new.sets.visits in
+    let S = Has (members c.find_until-best.new.sets.current) in
+    let left = subst (λ o. IfSome o (λ p. (p < c.saturating_sub-far.result)
+    × IsAlone (nfa c.args.self.now) c.args.line.now c.args.from p S c.find_until-best.result.0)) c.in-Some.is
+    c.find_until-best.ensures.left in
+    let alone = subst (λ b. IsAlone (nfa c.args.self.now) c.args.line.now c.args.from place S b) c.in_ok-start.was
+    left.1 in
+    let spare = subst (λ o. IfSome o (λ p. before + 4 * n ≤ (p - c.args.from) * n)) c.in-Some.is
+    c.find_until-best.ensures.spare in
+    visits_spared (place - c.args.from) (l - place) (l - c.args.from) n _ _ spare c.track.ensures.visits
+    (omega (arith, alone.0, alone.2.onward, alone.2.within))
