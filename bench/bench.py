@@ -168,6 +168,8 @@ def cases(folder, megabytes):
     yield Case(["-cE", "-f", "expressions-known"], "tiny", ["-c", "-f", "expressions-known"])
     write(folder / "wide", texts.wide(words, 5))
     yield from split("-oE a.*b.*c.*d\n-oiE ab.*to\n-cE [xyz]{4}\n-oE [a-z]*ing", "wide")
+    write(folder / "single", texts.single(words, 4))
+    yield from split("-oE ea.*to\n-oE a.*b.*c\n-oE [a-z]+ing.*to\n-oE tone.*", "single")
     write(folder / "letters", b"a" * 20_000 + b"\n")
     yield from split("-oE a*b|a", "letters")
     write(folder / "log", texts.log(20))

@@ -106,6 +106,12 @@ def wide(words, megabytes):
     return ("\n".join(lines) + "\n").encode()
 
 
+def single(words, megabytes):
+    """One line of so many megabytes of these words."""
+    line = " ".join(random.Random(13).choices(words, k=megabytes * MEGABYTE // 7))
+    return (line[: megabytes * MEGABYTE] + "\n").encode()
+
+
 def log(megabytes):
     """Lines of a web server's log, with addresses, methods and identifiers."""
     chance, lines, size = random.Random(5), [], 0

@@ -253,7 +253,7 @@ module _ (m : Nfa) (t : Remembered) (is : IsAnchoredMemoryOf m t) where
       subst (ToldAlone m t (state / 256) b) (sym here) (is.told (state / 256) b s.known lt)
 
   -- a step to a row
-  row_behind : (state v b : ℕ) → IsAtRow t state → b < 256 → v ≡ slice_index t.steps (state + b) → 256 ≤ v
+  pub row_behind : (state v b : ℕ) → IsAtRow t state → b < 256 → v ≡ slice_index t.steps (state + b) → 256 ≤ v
       → IsAtRow t v × (1 ≤ v / 256) × GoesAlone m.states b (In t (state / 256)) (In t (v / 256))
   row_behind state v b s lt read big = elim (told_at state v b s lt read) [
     | inl unknown ↦ absurd (omega (arith, unknown.0))

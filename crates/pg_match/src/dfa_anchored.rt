@@ -2,7 +2,7 @@
 ghost use Rattle.std.specs.Prelude.{◌≡◌, ◌+◌, ◌*◌, ◌<◌, ◌≤◌, ◌^◌, length, IfSome, IsTrue, Some};
 ghost use Rattle.pg_match.specs.Anchored.{IsAnchoredMemoryOf, start_row, NothingBefore, TellsKnownSpan, known_span_of};
 ghost use Rattle.pg_pattern.specs.Bounds.{MayBegin, MayEnd};
-ghost use Rattle.pg_match.specs.Memories.{In, Keeps, Same};
+ghost use Rattle.pg_match.specs.Memories.{In, IsAtRow, Keeps, Same};
 ghost use Rattle.pg_match.specs.Searches.{IsBest};
 ghost use Rattle.pg_match.specs.StateSets.{IsGood, HaveRoom};
 ghost use Rattle.pg_match.specs.Steps.{Has};
@@ -238,6 +238,26 @@ impl<A: Allocator> Automaton<A> {
         memory.add(&sets.current, accepts)
     }
 
+    /// Goes on from a row at a place as long as the rows are known. Answers the row and the place that it comes to.
+    fn walk_alone(&self, memory: &Cache<A>, line: &[u8], state: u32, place: usize) -> (u32, usize)
+        requires memory { IsAnchoredMemoryOf (nfa self.now) (remembered memory.now) }
+        requires row { IsAtRow (remembered memory.now) state }
+        ensures row { IsAtRow (remembered memory.now) result.0 }
+        ensures onward { place ≤ result.1 }
+    {
+        let mut at = state;
+        let mut here = place;
+        while here < line.len() {
+            let next = memory.steps[at as usize + line[here] as usize];
+            if next < 256 {
+                break;
+            }
+            at = next;
+            here += 1;
+        }
+        (at, here)
+    }
+
     /// Learns more of the runs that begin at a place of a line, as long as there were at most `limit` visits a state.
     fn study_from(
         &self,
@@ -267,18 +287,23 @@ impl<A: Allocator> Automaton<A> {
                 return;
             }
         }
-        let mut row = start_row(start);
-        for place in start..line.len() {
+        let first = 256 * start_row(start) as u32;
+        let (mut state, mut place) = self.walk_alone(memory, line, first, start);
+        while place < line.len() {
             if sets.visits > most {
                 return;
             }
-            match self.learn_alone(sets, memory, row, line[place]) {
-                Some(next) => row = next,
+            match self.learn_alone(sets, memory, (state / 256) as usize, line[place]) {
+                Some(next) => {
+                    let (at, here) = self.walk_alone(memory, line, 256 * next as u32, place + 1);
+                    state = at;
+                    place = here;
+                }
                 None => return,
             }
         }
         if sets.visits <= most {
-            self.learn_end(sets, memory, row);
+            self.learn_end(sets, memory, (state / 256) as usize);
         }
     }
 

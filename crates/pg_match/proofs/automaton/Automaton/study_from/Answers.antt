@@ -1,6 +1,7 @@
 use Rattle.std.proofs.Common.{◌∙◌, length, arith, refl}
 use Rattle.pg_match.proofs.AnchoredLemmas.{start_row_few}
-use Rattle.pg_match.proofs.CacheLemmas.{told_on, within_most, within_room, visits_whole}
+use Rattle.pg_match.specs.Views.{remembered}
+use Rattle.pg_match.proofs.CacheLemmas.{at_row, told_on, within_most, within_room, visits_whole}
 use Rattle.pg_match.proofs.automaton.Automaton.study_from.Goals as goal
 
 pub loop-memory-init : goal.loop-memory-init
@@ -28,13 +29,12 @@ loop-memory-smaller g c =
 
 pub loop-place-init : goal.loop-place-init
 loop-place-init g c =
-    let few = start_row_few c.args.start in
     let kept = c.loop-memory.invariant in
     record {
       room = kept.room;
       memory = kept.memory;
       some = c.loop-memory-test.false;
-      known = omega (arith, c.start_row-row.ensures, c.loop-memory-test.false);
+      row = c.walk_alone-state.ensures.row;
       visits = kept.visits;
       told = kept.told;
     }
@@ -46,7 +46,7 @@ loop-place-preserved g c =
       room = learned.room;
       memory = learned.memory;
       some = learned.some;
-      known = learned.known;
+      row = c.walk_alone-at.ensures.row;
       visits = visits_whole _ _ _ _ _ (c.len-size.ensures ∙ c.args.self.now.states.ok.0) c.if-sets-most-2.false
           learned.visits;
       told = omega (arith, c.loop-place.invariant.told, learned.told);
@@ -94,3 +94,13 @@ learn_end-requires-clause-visits g c =
     let size = c.args.self.now.states.ok.0 in
     within_most _ (length c.args.self.now.states.items) _ _ (c.len-size.ensures ∙ size)
     c.requires.short (omega arith) c.if-sets-most-3.true
+
+pub walk_alone-state-requires-clause-row : goal.walk_alone-state-requires-clause-row
+walk_alone-state-requires-clause-row g c =
+    let few = start_row_few c.args.start in
+    at_row (remembered c.loop-memory.memory) _ c.start_row.result refl
+    (omega (arith, few, c.start_row.ensures, c.loop-memory-test.false))
+
+pub walk_alone-at-requires-clause-row : goal.walk_alone-at-requires-clause-row
+walk_alone-at-requires-clause-row g c =
+    at_row (remembered c.learn_alone.new.memory) _ c.in-Some.next refl c.in-Some.ensures.known
