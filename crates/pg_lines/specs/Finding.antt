@@ -1,9 +1,10 @@
 -- What a search for lines with a hit needs, and what it finds.
-use Rattle.std.specs.Prelude.{ℕ, ◌<◌, ◌≤◌, false, List, length, drop}
+use Rattle.std.specs.Prelude.{◌≡◌, ℕ, ◌<◌, ◌≤◌, Bool, false, List, [], length, drop, Option, Some, None}
 use Rattle.pg_match.specs.Machines.{Fits, Room}
 use Rattle.pg_blocks.specs.Lines.{AreShort}
 use Rattle.pg_blocks.specs.declared.span.Span.{Span}
 use Rattle.pg_selection.specs.Search.{SearchText, Pattern, AreTreesOf, search_of, uninverted, terminator_of}
+use Rattle.pg_selection.specs.Selection.{has_hit}
 use Rattle.pg_selection.specs.Runs.{AllLines}
 use Rattle.pg_lines.specs.Queries.{Compiled}
 use Rattle.pg_lines.specs.Strings.{AreBlockStrings}
@@ -32,3 +33,9 @@ pub record IsNextHit (text : SearchText) (bytes : List ℕ) (at : ℕ) (line : S
 abbrev pub HasNoNextHit : SearchText → List ℕ → ℕ → Type 0
 HasNoNextHit text bytes at = (trees : List Pattern) → AreTreesOf text trees
     → AllLines (search_of (uninverted text) trees) false (drop at bytes)
+
+-- whether an empty line has a hit, if that is known
+abbrev pub TellsEmpty : SearchText → Option Bool → Type 0
+TellsEmpty text None = Unit {0}
+TellsEmpty text (Some answer) = (trees : List Pattern) → AreTreesOf text trees
+    → answer ≡ has_hit (search_of text trees) []

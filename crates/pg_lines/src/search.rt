@@ -12,7 +12,7 @@ ghost use Rattle.pg_lines.specs.Queries.{IsCompiled};
 ghost use Rattle.pg_lines.specs.Literals.{AreLiterals, TellHeads, data_of};
 ghost use Rattle.pg_lines.specs.Strings.{AreBlockStrings, IsSetOf, JudgesLine};
 ghost use Rattle.pg_lines.specs.Candidates.{AreNeedles, literals_sought};
-ghost use Rattle.pg_lines.specs.Finding.{CanSearch, HasNoNextHit, IsNextHit};
+ghost use Rattle.pg_lines.specs.Finding.{CanSearch, HasNoNextHit, IsNextHit, TellsEmpty};
 ghost use Rattle.pg_lines.specs.Gathered.{IsNextLine, IsGathered};
 
 use crate::literal_set::{LiteralSet, fixed_strings};
@@ -59,6 +59,35 @@ fn has_hit<A: Allocator>(
     }
 }
 
+/// The same of one line of many: what an empty line has is found out once, and `empty` has the answer then.
+fn line_has_hit<A: Allocator>(
+    query: &Query<A>,
+    strings: &BlockStrings<'_, A>,
+    scratch: &mut Scratch<A>,
+    empty: &mut Option<bool>,
+    line: &[u8],
+    at: usize,
+) -> bool
+    requires fits { Fits scratch.old query.now.machine }
+    requires short { length line.now ≤ 2 ^ 30 }
+    requires line { JudgesLine query.now.text strings.now line.now at }
+    requires empty { TellsEmpty query.now.text empty.old }
+    ensures fits { Fits scratch.new query.now.machine }
+    ensures empty { TellsEmpty query.now.text empty.new }
+    ensures hit { (trees : List Pattern) → AreTreesOf query.now.text trees →
+        result ≡ has_hit (search_of query.now.text trees) line.now }
+{
+    if !line.is_empty() {
+        return has_hit(query, strings, scratch, line, at);
+    }
+    if let Some(answer) = empty {
+        return *answer;
+    }
+    let answer = has_hit(query, strings, scratch, line, at);
+    *empty = Some(answer);
+    answer
+}
+
 /// The first line with a hit at or behind a place where a line starts, with its terminator.
 fn next_matched<A: Allocator>(
     query: &Query<A>,
@@ -77,11 +106,13 @@ fn next_matched<A: Allocator>(
 {
     let end = query.terminator();
     let rest = &bytes[at..];
+    let mut empty = None;
     let mut start = 0;
     while start < rest.len() {
         let stop = line_end(end, rest, start);
         let next = if stop < rest.len() { stop + 1 } else { stop };
-        if has_hit(query, strings, scratch, &rest[start..stop], at + start) {
+        let line = &rest[start..stop];
+        if line_has_hit(query, strings, scratch, &mut empty, line, at + start) {
             return Some(Span {
                 start: at + start,
                 end: at + next,

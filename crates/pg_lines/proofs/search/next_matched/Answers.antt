@@ -9,8 +9,8 @@ use Rattle.pg_lines.proofs.ScanLemmas.{GoesOn, scanned, not_passed, scanned_shor
 use Rattle.pg_lines.proofs.search.next_matched.Goals as goal
 use Rattle.pg_lines.proofs.search.next_matched.Goals.{then-stop-rest, else-stop-rest}
 
-pub returns-then-has_hit-clause-found : goal.returns-then-has_hit-clause-found
-returns-then-has_hit-clause-found g c =
+pub returns-then-line_has_hit-clause-found : goal.returns-then-line_has_hit-clause-found
+returns-then-line_has_hit-clause-found g c =
     let bytes = c.args.bytes.now in
     let at = c.args.at in
     let text = c.args.query.now.text in
@@ -39,7 +39,7 @@ returns-then-has_hit-clause-found g c =
           let q = search_of (uninverted text) trees in
           let P : List ℕ → Type 0 = λ xs. IsNextLine q at xs (record { start = at + s; end = at + next }) in
           subst P (take_rest bytes at) (line_found q rest at s stop next _ line front (i.unselected trees spelled)
-          (sym (c.has_hit.ensures.hit trees spelled) ∙ c.if-has_hit.true) refl refl);
+          (sym (c.line_has_hit.ensures.hit trees spelled) ∙ c.if-line_has_hit.true) refl refl);
     }
 
 pub loop-start-preserved : goal.loop-start-preserved
@@ -61,16 +61,17 @@ loop-start-preserved g c =
     e.high e.clear e.ended goes in
     let front = not_passed (terminator_of text) rest s c.loop-start-test.true i.passed in
     record {
-      fits = c.has_hit.ensures.fits;
+      fits = c.line_has_hit.ensures.fits;
+      empty = c.line_has_hit.ensures.empty;
       within = elim goes [ inl h ↦ omega (arith, h.0, h.1) | inr h ↦ omega (arith, h.1, e.high) ];
       passed = line_passed (terminator_of text) rest s stop next line front;
       unselected = λ trees spelled. line_unselected (search_of (uninverted text) trees) rest s stop next line front
-          (i.unselected trees spelled) (sym (c.has_hit.ensures.hit trees spelled) ∙ c.if-has_hit.false);
+          (i.unselected trees spelled) (sym (c.line_has_hit.ensures.hit trees spelled) ∙ c.if-line_has_hit.false);
       short = (scanned_short (terminator_of text) _ rest s stop next c.terminator-end.ensures e.line i.short goes).1;
     }
 
-pub has_hit-requires-clause-line : goal.has_hit-requires-clause-line
-has_hit-requires-clause-line g c =
+pub line_has_hit-requires-clause-line : goal.line_has_hit-requires-clause-line
+line_has_hit-requires-clause-line g c =
     let bytes = c.args.bytes.now in
     let at = c.args.at in
     let e = c.line_end-stop.ensures in
