@@ -24,7 +24,7 @@ OLDER = {"-y": "-i"}
 
 OPTION = re.compile(
     r"""OptionRow\(\s*Names::(?:Letter\('(?P<letter>.)',\s*|Long\()&\[(?P<others>[^\]]*)\]\),\s*"""
-    r""""(?P<name>[a-z-]+)",\s*Behind::(?P<value>\w+)"""
+    r""""(?P<name>[a-z-]+)",\s*OptionValue::(?P<value>\w+)"""
 )
 
 
