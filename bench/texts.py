@@ -112,6 +112,17 @@ def single(words, megabytes):
     return (line[: megabytes * MEGABYTE] + "\n").encode()
 
 
+def sequence(count):
+    """The numbers from 1 on, a line each."""
+    return "".join(f"{number}\n" for number in range(1, count + 1)).encode()
+
+
+def settings(count):
+    """So many short lines as in files of settings: comments, names with values, headings, and empty lines."""
+    lines = ("# a comment", "key = value", "", "  indented: yes", "[section]")
+    return ("\n".join(random.Random(19).choices(lines, k=count)) + "\n").encode()
+
+
 def log(megabytes):
     """Lines of a web server's log, with addresses, methods and identifiers."""
     chance, lines, size = random.Random(5), [], 0

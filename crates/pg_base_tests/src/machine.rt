@@ -5,6 +5,7 @@ ghost use Rattle.pg_pattern.specs.Trees.{pattern};
 ghost use Rattle.pg_match.specs.Machines.{Fits};
 
 use crate::rows::{Question, assert_rows, repeated};
+use pg_blocks::{NEWLINE, line_end};
 use pg_match::{BuildFault, Machine, Scratch};
 use pg_pattern::laws::next_part_is_one;
 use pg_pattern::{Bounds, Tree};
@@ -126,6 +127,33 @@ fn show_parts_twice(
     }
 }
 
+/// Shows what is remembered of the line that some bytes begin with. The scratch is the machine's.
+fn show_known(machine: &Machine, scratch: &Scratch, bytes: &[u8], out: &mut String)
+    requires { Fits scratch.now machine.now }
+{
+    let known = match machine.recall_line(scratch, NEWLINE, bytes) {
+        Some(line) => Some((line.has_hit, line.read)),
+        None => None,
+    };
+    let _ = write!(out, " {known:?}");
+}
+
+/// Shows what is remembered of the first line of some bytes before and after it was searched. The scratch is the
+/// machine's.
+fn show_recalled(machine: &Machine, scratch: &mut Scratch, bytes: &[u8], out: &mut String)
+    requires fits { Fits scratch.old machine.now }
+    requires short { length bytes.now ≤ 2 ^ 30 }
+{
+    show_known(machine, scratch, bytes, out);
+    let stop = if bytes.is_empty() {
+        0
+    } else {
+        line_end(NEWLINE, bytes, 0)
+    };
+    machine.selects(scratch, &bytes[..stop]);
+    show_known(machine, scratch, bytes, out);
+}
+
 /// Shows what searches of a line, or of lines, visit or find, as the rest of a row asks. The scratch is the machine's.
 fn show_asked(alloc: Global, machine: &Machine, scratch: &mut Scratch, rest: &str, out: &mut String)
     requires { Fits scratch.old machine.now }
@@ -134,6 +162,8 @@ fn show_asked(alloc: Global, machine: &Machine, scratch: &mut Scratch, rest: &st
         show_parts_twice(alloc, machine, scratch, lines, out);
     } else if let Some((line, most)) = rest.split_once(" within ") {
         show_found(machine, scratch, &line_of(alloc, line), most, out);
+    } else if let Some(bytes) = rest.strip_suffix(" recalled") {
+        show_recalled(machine, scratch, &line_of(alloc, bytes), out);
     } else if let Some((line, _)) = rest.split_once(" counted") {
         show_counts(machine, scratch, &line_of(alloc, line), out);
     }
@@ -223,9 +253,22 @@ word x*$:1 on -x-xx:1 axx:1 parted => [(3, 5)] []
 word a|a-b:1 on -a-bc:1 -a-b:1 parted => [(1, 2)] [(1, 4)]
 whole a|a-b:1 on -a:1 a-b:1 parted => [] [(0, 3)]";
 
+/// Bounds, an extended expression, and bytes; what is remembered of the line that they begin with before and after it
+/// was searched: whether it has a hit, and how many of its bytes tell that.
+const RECALLED: &str = "any ^a:1 on bcd:1 %0Aa:1 recalled => None Some((false, 1))
+any a*b:1 on aab:1 %0Ac:1 recalled => None Some((true, 3))
+any ab:1 on abab:1 %0Ac:1 recalled => None Some((true, 3))
+any a$:1 on ba:1 recalled => None Some((true, 2))
+any a$:1 on ab:1 %0Aa:1 recalled => None Some((false, 2))
+word a:1 on ab-a:1 %0A:1 recalled => None Some((true, 4))
+whole ab:1 on ab:1 %0Ab:1 recalled => None Some((true, 2))
+any b*:1 on %0Ab:1 recalled => None Some((true, 0))
+any b:1 on :1 recalled => None Some((false, 0))
+none :1 on a:1 recalled => None None";
+
 #[test]
 fn visits_counts_and_parts(rt: HostRuntime) {
-    for rows in [VISITS, COUNTS, DEEP, PARTS] {
+    for rows in [VISITS, COUNTS, DEEP, PARTS, RECALLED] {
         assert_rows(&rt, rt.alloc(), Question::Visits, rows);
     }
     next_part_is_one();

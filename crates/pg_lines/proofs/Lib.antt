@@ -1,5 +1,6 @@
 pub mod BetweenLemmas
 pub mod CandidateLemmas
+pub mod EachLineLemmas
 pub mod GatherLemmas
 pub mod HeadLemmas
 pub mod HitLemmas

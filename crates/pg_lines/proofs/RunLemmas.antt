@@ -121,7 +121,7 @@ without_each fold literals (line ∷ ls) each = (
   without_each fold literals ls (λ l among. (each l among).1),
 )
 
-is_line : (end : ℕ) (bytes : List ℕ) (s e : ℕ) → e ≤ length bytes → IsClear end bytes s e
+pub is_line : (end : ℕ) (bytes : List ℕ) (s e : ℕ) → e ≤ length bytes → IsClear end bytes s e
     → IsLine end (take (e - s) (drop s bytes))
 is_line end bytes s e high none c =
     let within : c.0 < e - s = omega (arith, c.1, length-take (e - s) (drop s bytes)) in

@@ -5,6 +5,7 @@
 //! literals where that is possible and by the automaton else; a [`BlockResult`] keeps them as runs of lines.
 #![tactic(auto)]
 
+mod every_line;
 mod literal_set;
 mod may;
 mod needle;
@@ -12,6 +13,7 @@ mod needle_set;
 mod needles;
 mod parts;
 mod query;
+mod runs;
 mod search;
 mod strings;
 

@@ -1,25 +1,26 @@
 //! The search of one block.
-ghost use Rattle.std.specs.Prelude.{◌≡◌, ◌⊎◌, ◌+◌, ◌<◌, ◌≤◌, ◌^◌, ◌++◌, ◌∷◌, [], IfOk, IfSome, MatchOption, OnOk, List};
-ghost use Rattle.std.specs.Prelude.{length, map, drop, slice_range, true, false, nat_lt, if◌then◌else◌};
+ghost use Rattle.std.specs.Prelude.{◌≡◌, ◌⊎◌, ℕ, ◌+◌, ◌<◌, ◌≤◌, ◌^◌, IfOk, IfSome, MatchOption, List, length, map};
+ghost use Rattle.std.specs.Prelude.{drop, slice_range, true, false};
 ghost use Rattle.std.specs.Arc.{arc_value};
 ghost use Rattle.pg_literal.specs.Literals.{as_searched};
 ghost use Rattle.pg_match.specs.Machines.{Fits};
 ghost use Rattle.pg_blocks.specs.Lines.{lines, AreShort};
-ghost use Rattle.pg_selection.specs.Search.{Search, Pattern, AreTreesOf, search_of, terminator, terminator_of};
+ghost use Rattle.pg_selection.specs.Search.{Pattern, AreTreesOf, search_of, terminator_of};
 ghost use Rattle.pg_selection.specs.Selection.{has_hit};
 ghost use Rattle.pg_selection.specs.Searched.{IsFound};
 ghost use Rattle.pg_lines.specs.Queries.{IsCompiled};
 ghost use Rattle.pg_lines.specs.Literals.{AreLiterals, TellHeads, data_of};
 ghost use Rattle.pg_lines.specs.Strings.{AreBlockStrings, IsSetOf, JudgesLine};
 ghost use Rattle.pg_lines.specs.Candidates.{AreNeedles, literals_sought};
-ghost use Rattle.pg_lines.specs.Finding.{CanSearch, HasNoNextHit, IsNextHit, TellsEmpty};
-ghost use Rattle.pg_lines.specs.Gathered.{IsNextLine, IsGathered};
+ghost use Rattle.pg_lines.specs.Finding.{CanSearch, HasNoNextHit, IsNextHit, IsTextAt};
 
+use crate::every_line::{hits_each_line, runs_of_each_line};
 use crate::literal_set::{LiteralSet, fixed_strings};
 use crate::needle_set::NextLine;
 use crate::needles::Needles;
 use crate::parts::push_line_parts;
 use crate::query::Query;
+use crate::runs::{push_run, run_between, with_line};
 use crate::strings::{BlockStrings, NextString, only_head};
 use pg_blocks::{Block, Span, count_lines, line_end, text_of};
 use pg_literal::Literal;
@@ -59,36 +60,53 @@ fn has_hit<A: Allocator>(
     }
 }
 
-/// The same of one line of many: what an empty line has is found out once, and `empty` has the answer then.
-fn line_has_hit<A: Allocator>(
+/// Where the text of a line ends: at its terminator, which doesn't stand before a place, or where the bytes end.
+fn text_end(end: u8, bytes: &[u8], place: usize) -> usize
+    requires { place ≤ length bytes.now }
+    ensures { IsTextAt end bytes.now place result }
+{
+    if place < bytes.len() && bytes[place] != end {
+        line_end(end, bytes, place)
+    } else {
+        place
+    }
+}
+
+/// Where the text of the line ends that starts at a place, and whether the line has a hit. It stands at `at` in the
+/// block. Where the automaton alone is asked, what it remembers is, which looks for the line's end by the way.
+fn judge_line<A: Allocator>(
     query: &Query<A>,
     strings: &BlockStrings<'_, A>,
     scratch: &mut Scratch<A>,
-    empty: &mut Option<bool>,
-    line: &[u8],
+    bytes: &[u8],
+    start: usize,
     at: usize,
-) -> bool
+) -> (usize, bool)
     requires fits { Fits scratch.old query.now.machine }
-    requires short { length line.now ≤ 2 ^ 30 }
-    requires line { JudgesLine query.now.text strings.now line.now at }
-    requires empty { TellsEmpty query.now.text empty.old }
+    requires start { start < length bytes.now }
+    requires short { AreShort (terminator_of query.now.text) (drop start bytes.now) }
+    requires lines { (stop : ℕ) → start ≤ stop → stop ≤ length bytes.now
+        → JudgesLine query.now.text strings.now (slice_range bytes.now start stop) at }
     ensures fits { Fits scratch.new query.now.machine }
-    ensures empty { TellsEmpty query.now.text empty.new }
-    ensures hit { (trees : List Pattern) → AreTreesOf query.now.text trees →
-        result ≡ has_hit (search_of query.now.text trees) line.now }
+    ensures text { IsTextAt (terminator_of query.now.text) bytes.now start result.0 }
+    ensures hit { (trees : List Pattern) → AreTreesOf query.now.text trees
+        → result.1 ≡ has_hit (search_of query.now.text trees) (slice_range bytes.now start result.0) }
 {
-    if !line.is_empty() {
-        return has_hit(query, strings, scratch, line, at);
+    let end = query.terminator();
+    if strings.are_none() {
+        if let Some(line) = query.machine().recall_line(scratch, end, &bytes[start..]) {
+            return (text_end(end, bytes, start + line.read), line.has_hit);
+        }
     }
-    if let Some(answer) = empty {
-        return *answer;
-    }
-    let answer = has_hit(query, strings, scratch, line, at);
-    *empty = Some(answer);
-    answer
+    let stop = line_end(end, bytes, start);
+    let line = &bytes[start..stop];
+    let has_hit = has_hit(query, strings, scratch, line, at);
+    (stop, has_hit)
 }
 
-/// The first line with a hit at or behind a place where a line starts, with its terminator.
+/// The first line with a hit at or behind a place where a line starts, with its terminator. It isn't compiled into its
+/// callers, whose other ways would have fewer registers.
+#[inline(never)]
 fn next_matched<A: Allocator>(
     query: &Query<A>,
     strings: &BlockStrings<'_, A>,
@@ -104,15 +122,12 @@ fn next_matched<A: Allocator>(
     ensures found { MatchOption result (HasNoNextHit query.now.text bytes.now at)
         (IsNextHit query.now.text bytes.now at) }
 {
-    let end = query.terminator();
     let rest = &bytes[at..];
-    let mut empty = None;
     let mut start = 0;
     while start < rest.len() {
-        let stop = line_end(end, rest, start);
+        let (stop, has_hit) = judge_line(query, strings, scratch, rest, start, at + start);
         let next = if stop < rest.len() { stop + 1 } else { stop };
-        let line = &rest[start..stop];
-        if line_has_hit(query, strings, scratch, &mut empty, line, at + start) {
+        if has_hit {
             return Some(Span {
                 start: at + start,
                 end: at + next,
@@ -143,6 +158,7 @@ fn next_by_automaton<A: Allocator>(
 
 /// The first line with a hit at or behind a place where a line starts, with its terminator, where such lines hold a
 /// needle: only those that do are looked at. If too many of them have none, needles are looked for no more.
+#[inline(never)]
 fn next_confirmed<A: Allocator>(
     query: &Query<A>,
     strings: &BlockStrings<'_, A>,
@@ -184,6 +200,7 @@ fn next_confirmed<A: Allocator>(
 
 /// The first line with a hit at or behind a place where a line starts, with its terminator: by the needles where there
 /// are any, else line by line.
+#[inline(always)]
 fn next_hit<A: Allocator>(
     query: &Query<A>,
     strings: &BlockStrings<'_, A>,
@@ -205,67 +222,6 @@ fn next_hit<A: Allocator>(
         next_matched(query, strings, scratch, bytes, at)
     } else {
         next_confirmed(query, strings, needles, scratch, bytes, at)
-    }
-}
-
-/// Keeps a run, unless it is empty.
-fn push_run<A: Allocator>(runs: &mut Vec<Run, A>, run: Run) -> Result<(), AllocError>
-    ensures { OnOk result (runs.new.items ≡ runs.old.items
-        ++ (if nat_lt run.span.start run.span.end then run ∷ [] else [])) }
-{
-    if run.span.start < run.span.end {
-        runs.push(run)?;
-    }
-    Ok(())
-}
-
-/// The run of a line that stands apart from the run before it.
-fn run_behind(end: u8, bytes: &[u8], run: Run, line: Span) -> Run
-    requires few { run.first + run.count ≤ run.span.end }
-    requires apart { run.span.end ≤ line.start }
-    requires within { line.start ≤ length bytes.now }
-    ensures span { result.span ≡ line }
-    ensures first { result.first
-        ≡ run.first + run.count + length (lines end (slice_range bytes.now run.span.end line.start)) }
-    ensures count { result.count ≡ 1 }
-    ensures few { result.first ≤ line.start }
-{
-    Run {
-        span: line,
-        first: run.first + run.count + count_lines(end, &bytes[run.span.end..line.start]),
-        count: 1,
-    }
-}
-
-/// The open run with the next selected line. One that the line stands apart from is closed, and the line opens another.
-fn with_line<A: Allocator>(
-    runs: &mut Vec<Run, A>,
-    run: Run,
-    end: u8,
-    bytes: &[u8],
-    line: Span,
-) -> Result<Run, AllocError>
-    requires few { run.first + run.count ≤ run.span.end }
-    requires within { (run.span.end ≤ line.start) × (line.start < line.end) × (line.end ≤ length bytes.now) }
-    ensures stop { IfOk result (λ longer. longer.span.end ≡ line.end) }
-    ensures few { IfOk result (λ longer. (0 < longer.count) × (longer.first + longer.count ≤ longer.span.end)) }
-    ensures gathered { (q : Search) → end ≡ terminator q → IsGathered q bytes.now runs.old.items run
-        → IsNextLine q run.span.end (drop run.span.end bytes.now) line
-        → IfOk result (IsGathered q bytes.now runs.new.items) }
-{
-    if run.span.end < line.start {
-        push_run(runs, run)?;
-        Ok(run_behind(end, bytes, run, line))
-    } else {
-        let span = Span {
-            start: run.span.start,
-            end: line.end,
-        };
-        Ok(Run {
-            span,
-            first: run.first,
-            count: run.count + 1,
-        })
     }
 }
 
@@ -300,25 +256,6 @@ fn runs_of_hits<A: Allocator + Copy>(
     push_run(&mut runs, run)?;
     let lines = run.first + run.count + count_lines(end, &bytes[run.span.end..]);
     Ok(Found { runs, parts, lines })
-}
-
-/// The run of all lines from one place up to another, behind so many lines.
-fn run_between(end: u8, bytes: &[u8], at: usize, stop: usize, first: usize) -> Run
-    requires few { first ≤ at }
-    requires within { (at ≤ stop) × (stop ≤ length bytes.now) }
-    ensures span { (result.span.start ≡ at) × (result.span.end ≡ stop) }
-    ensures first { result.first ≡ first }
-    ensures count { result.count ≡ length (lines end (slice_range bytes.now at stop)) }
-    ensures few { first + result.count ≤ stop }
-{
-    Run {
-        span: Span {
-            start: at,
-            end: stop,
-        },
-        first,
-        count: count_lines(end, &bytes[at..stop]),
-    }
 }
 
 /// The runs of lines between those with a hit, and the number of all lines.
@@ -417,6 +354,9 @@ fn search_by<A: Allocator + Copy>(
     ensures fits { Fits scratch.new query.now.machine }
     ensures found { IfOk result (IsFound query.now.text bytes.now) }
 {
+    if !query.text().with_parts && hits_each_line(query, literals) {
+        return runs_of_each_line(alloc, query, bytes);
+    }
     let strings = BlockStrings::new(fixed_strings(set), only_head(query, literals), searched);
     let mut needles = Needles::new(alloc, literals, sought_set(query, set), searched)?;
     selected_runs(alloc, query, &strings, &mut needles, scratch, bytes)

@@ -1,6 +1,6 @@
 //! What judges lines before the automaton: the strings of a query whose patterns are all fixed strings, or a text that
 //! each match begins with.
-ghost use Rattle.std.specs.Prelude.{◌≡◌, ◌+◌, ◌<◌, ◌≤◌, List, length, IfSome};
+ghost use Rattle.std.specs.Prelude.{◌≡◌, ◌↔◌, ◌+◌, ◌<◌, ◌≤◌, List, length, IfSome, IsTrue, None};
 ghost use Rattle.pg_strings.specs.Outcomes.{strings_of};
 ghost use Rattle.pg_selection.specs.Search.{SearchText, Pattern, AreTreesOf, bounds_of};
 ghost use Rattle.pg_lines.specs.Literals.{TellHeads};
@@ -164,6 +164,13 @@ impl<'s, A: Allocator> BlockStrings<'s, A> {
             head,
             searched,
         }
+    }
+
+    /// Whether there is nothing to look for before the automaton is asked.
+    pub fn are_none(&self) -> bool
+        ensures { IsTrue result ↔ ((self.now.set ≡ None) × (self.now.head ≡ None)) }
+    {
+        self.set.is_none() && self.head.is_none()
     }
 
     /// Where the text next stands that each match begins with, from a place of the line on.

@@ -14,7 +14,7 @@ use Rattle.pg_match.specs.Steps.{Has, Goes, Starts, HitBefore, AnswersEnd, Reads
 use Rattle.pg_match.specs.Stands.{Stands, HasRun}
 use Rattle.pg_match.specs.Memories.{Remembered, cut, ended, fresh_at, In, Same, IsShape, Told, IsMemoryOf}
 use Rattle.pg_match.specs.Memories.{IsUnknown, IsHopeless, IsBlank, Keeps, Grown, SameSets, Marked, MarkedEnd}
-use Rattle.pg_match.specs.Memories.{IsAtRow, StandsAt, Learned, Finishes}
+use Rattle.pg_match.specs.Memories.{IsAtRow, StandsAt, Learned, Finishes, Settles}
 use Rattle.pg_match.specs.Views.{remembered, Remembers}
 use Rattle.pg_match.specs.declared.dfa_cache.Cache.{Cache}
 use Rattle.pg_match.specs.declared.dfa_search.Next.TheVariants.{Row, Lost}
@@ -503,6 +503,20 @@ walking_read m mem l from state p u at v e is_m is lt more read big w =
     walking_next m mem l from state p u at v b e is_m is lt (slice_get-get_or l p 0 w.within) more
     (get_or_read mem.steps _ v inside read 0) big w
 
+-- four steps of it
+pub walking_four : (m : Nfa) (mem : Remembered) (l : List ℕ) (from state p at a b c d : ℕ) → IsRunnable m
+    → IsMemoryOf m mem → ((i : ℕ) → get_or l i 0 < 256) → p + 4 < length l
+    → a ≡ get_or mem.steps (at + get_or l p 0) a → 256 ≤ a → b ≡ get_or mem.steps (a + get_or l (p + 1) 0) b → 256 ≤ b
+    → c ≡ get_or mem.steps (b + get_or l (p + 2) 0) c → 256 ≤ c → d ≡ get_or mem.steps (c + get_or l (p + 3) 0) d
+    → 256 ≤ d → Walking m mem l from state p at → Walking m mem l from state (p + 4) d
+walking_four m mem l from state p at a b c d is_m is small more ra ba rb bb rc bc rd bd w =
+    let w1 = walking_read m mem l from state p (p + 1) at a (omega arith) is_m is (small p) (omega arith) ra ba w in
+    let w2 = walking_read m mem l from state (p + 1) (p + 2) a b (omega arith) is_m is (small (p + 1)) (omega arith) rb
+    bb w1 in
+    let w3 = walking_read m mem l from state (p + 2) (p + 3) b c (omega arith) is_m is (small (p + 2)) (omega arith) rc
+    bc w2 in
+    walking_read m mem l from state (p + 3) (p + 4) c d (omega arith) is_m is (small (p + 3)) (omega arith) rd bd w3
+
 pub visits_small : (p n v : ℕ) → v ≤ (p + 1) * n → p ≤ 2 ^ 30 → n < 2 ^ 64 → v < 2 ^ 98
 visits_small p n v le short few = let less : n ≤ 2 ^ 64 = omega arith in omega (arith, mul-le-mul_left (p + 1) less)
 
@@ -720,13 +734,19 @@ ended_so m l from S true first is s to_empty empty h = (λ t. run_at_end m l fir
 ended_so m l from S false first is s to_empty empty h =
     (λ t. absurd (true≢false (sym t)), λ run. absurd (no_run m l first from S s empty h run))
 
-pub finishes_hit : (m : Nfa) (b : ℕ) (S : ℕ → Type 0) → IsRunnable m → HitBefore m b S → Finishes m b S true
-finishes_hit m b S is h = λ l from p s byte end le.
-    (λ t. run_before m l from p b S s is byte (omega arith) h, λ run. refl)
+pub settles_hit : (m : Nfa) (b : ℕ) (S : ℕ → Type 0) → IsRunnable m → HitBefore m b S → Settles m b S true
+settles_hit m b S is h = λ l from p lt s byte. (λ t. run_before m l from p b S s is byte lt h, λ run. refl)
 
-pub finishes_dead : (m : Nfa) (b : ℕ) (S : ℕ → Type 0) → IsHopeless m b S → Finishes m b S false
-finishes_dead m b S none = λ l from p s byte end le.
-    (λ t. absurd (true≢false (sym t)), λ run. absurd (none l from p (omega arith) s byte run))
+pub settles_dead : (m : Nfa) (b : ℕ) (S : ℕ → Type 0) → IsHopeless m b S → Settles m b S false
+settles_dead m b S none = λ l from p lt s byte.
+    (λ t. absurd (true≢false (sym t)), λ run. absurd (none l from p lt s byte run))
+
+-- what settles a line from any byte on does so from the last one on
+pub settled_finishes : (m : Nfa) (b : ℕ) (S : ℕ → Type 0) (answer : Bool) → Settles m b S answer → Finishes m b S answer
+settled_finishes m b S answer so = λ l from p s byte end le. so l from p (omega arith) s byte
+
+pub finishes_hit : (m : Nfa) (b : ℕ) (S : ℕ → Type 0) → IsRunnable m → HitBefore m b S → Finishes m b S true
+finishes_hit m b S is h = settled_finishes m b S true (settles_hit m b S is h)
 
 pub finishes_end : (m : Nfa) (b : ℕ) (S U : ℕ → Type 0) (answer : Bool) → IsRunnable m → (HitBefore m b S → ⊥)
     → Goes m b S U

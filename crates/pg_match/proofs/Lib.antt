@@ -9,6 +9,7 @@ pub mod StandsLemmas
 pub mod StartLemmas
 pub mod CacheLemmas
 pub mod ScanLemmas
+pub mod LineLemmas
 pub mod CursorLemmas
 pub mod AnchoredLemmas
 pub mod SingleStartLemmas

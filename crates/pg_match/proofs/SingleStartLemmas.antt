@@ -8,7 +8,7 @@ use Rattle.pg_pattern.proofs.TestLemmas.{end_decided}
 use Rattle.pg_pattern.specs.Bounds.{may_end}
 use Rattle.std.proofs.Math.Nat.{add-mul, mul-le-mul_left}
 use Rattle.pg_pattern.specs.Bounds.{MayBegin, MayEnd}
-use Rattle.pg_match.specs.Anchored.{NothingBefore, StandsFrom, IsLastEnd, Follows, Tracks, IsAlone}
+use Rattle.pg_match.specs.Anchored.{NothingBefore, StandsFrom, IsLastEnd, Follows, IsAnchoredRun, IsAlone}
 use Rattle.pg_match.specs.Automata.{Nfa, IsRunnable}
 use Rattle.pg_match.specs.Closures.{Leads}
 use Rattle.pg_match.specs.Memories.{Remembered, In, Same, Keeps}
@@ -88,9 +88,9 @@ stands_same m l s p S U same at = record {
   closed = λ lt q r h edge. (same r).0 (at.closed lt q r ((same q).1 h) edge);
 }
 
-pub tracks_same : (m : Nfa) (l : List ℕ) (s p last : ℕ) (S U : ℕ → Type 0) → Same S U → Tracks m l s p last S
-    → Tracks m l s p last U
-tracks_same m l s p last S U same t = record {
+pub anchored_same : (m : Nfa) (l : List ℕ) (s p last : ℕ) (S U : ℕ → Type 0) → Same S U → IsAnchoredRun m l s p last S
+    → IsAnchoredRun m l s p last U
+anchored_same m l s p last S U same t = record {
   begins = t.begins;
   onward = t.onward;
   within = t.within;
@@ -105,25 +105,27 @@ follows_keeps m old new l s p state last k f = record {
   onward = f.onward;
   within = f.within;
   row = record { row = f.row.row; known = omega (arith, f.row.known, k.more) };
-  stands = stands_same m l s p (In old (state / 256)) (In new (state / 256)) (k.sets (state / 256) f.row.known) f.stands;
+  stands = stands_same m l s p (In old (state / 256)) (In new (state / 256)) (k.sets (state / 256) f.row.known)
+      f.stands;
   found = f.found;
 }
 
 -- the runs stand at a row
-pub follows_tracks : (m : Nfa) (t : Remembered) (l : List ℕ) (s p last row : ℕ) → row ≤ t.count
-    → Tracks m l s p last (In t row) → Follows m t l s p (256 * row) (Some last)
-follows_tracks m t l s p last row known tracks = record {
-  onward = tracks.onward;
-  within = tracks.within;
+pub follows_anchored : (m : Nfa) (t : Remembered) (l : List ℕ) (s p last row : ℕ) → row ≤ t.count
+    → IsAnchoredRun m l s p last (In t row) → Follows m t l s p (256 * row) (Some last)
+follows_anchored m t l s p last row known run = record {
+  onward = run.onward;
+  within = run.within;
   row = at_row t (256 * row) row refl known;
-  stands = subst (λ k. StandsFrom m l s p (In t k)) (sym (row_of (256 * row) row refl)) tracks.stands;
-  found = tracks.found;
+  stands = subst (λ k. StandsFrom m l s p (In t k)) (sym (row_of (256 * row) row refl)) run.stands;
+  found = run.found;
 }
 
 -- the row's set was loaded
-pub tracks_loaded : (m : Nfa) (t : Remembered) (l : List ℕ) (s p last state : ℕ) (U : ℕ → Type 0) → MayBegin m.bounds l s
-    → Follows m t l s p state (Some last) → Same (In t (state / 256)) U → Tracks m l s p last U
-tracks_loaded m t l s p last state U begins f same = record {
+pub anchored_loaded : (m : Nfa) (t : Remembered) (l : List ℕ) (s p last state : ℕ) (U : ℕ → Type 0)
+    → MayBegin m.bounds l s → Follows m t l s p state (Some last) → Same (In t (state / 256)) U
+    → IsAnchoredRun m l s p last U
+anchored_loaded m t l s p last state U begins f same = record {
   begins = begins;
   onward = f.onward;
   within = f.within;
@@ -133,13 +135,13 @@ tracks_loaded m t l s p last state U begins f same = record {
 
 -- behind a byte
 module _ (m : Nfa) (l : List ℕ) (s p last b : ℕ) (seeds : List ℕ) (S U : ℕ → Type 0) (is_m : IsRunnable m)
-    (t : Tracks m l s p last S) (is : slice_get l p ≡ Some b) (lt : p < length l)
+    (t : IsAnchoredRun m l s p last S) (is : slice_get l p ≡ Some b) (lt : p < length l)
     (goes : GoesOn m.states seeds b (IsTrue false) S U) where
   pub stands_on : StandsFrom m l s (p + 1) U
   stands_on = stands_behind m l s p b S U is lt t.stands (gone_alone m.states seeds b S U goes)
 
-  pub tracks_on : (U 0 → MayEnd m.bounds l (p + 1) → ⊥) → Tracks m l s (p + 1) last U
-  tracks_on refused = record {
+  pub anchored_on : (U 0 → MayEnd m.bounds l (p + 1) → ⊥) → IsAnchoredRun m l s (p + 1) last U
+  anchored_on refused = record {
     begins = t.begins;
     onward = omega (arith, t.onward);
     within = omega arith;
@@ -147,8 +149,8 @@ module _ (m : Nfa) (l : List ℕ) (s p last b : ℕ) (seeds : List ℕ) (S U : �
     found = not_found m l s is_m p (Some last) U stands_on refused t.found;
   }
 
-  pub tracks_end : U 0 → MayEnd m.bounds l (p + 1) → Tracks m l s (p + 1) (p + 1) U
-  tracks_end h may = record {
+  pub anchored_end : U 0 → MayEnd m.bounds l (p + 1) → IsAnchoredRun m l s (p + 1) (p + 1) U
+  anchored_end h may = record {
     begins = t.begins;
     onward = omega (arith, t.onward);
     within = omega arith;

@@ -1,7 +1,6 @@
 -- Sets of the runs that began at one place, and where each byte leads from them: the table of anchored searches.
-use Rattle.std.specs.Prelude.{◌≡◌, ℕ, zero, suc, ◌+◌, ◌*◌, ◌/◌, ◌<◌, ◌≤◌, ◌⊎◌, ◌↔◌, Bool, true, false, List, length, Some}
-use Rattle.std.specs.Prelude.{slice_get, slice_index}
-use Rattle.std.specs.Prelude.{Option, None}
+use Rattle.std.specs.Prelude.{◌≡◌, ℕ, zero, suc, ◌+◌, ◌*◌, ◌/◌, ◌<◌, ◌≤◌, ◌⊎◌, ◌↔◌, Bool, true, false}
+use Rattle.std.specs.Prelude.{List, length, slice_get, slice_index, Option, Some, None}
 use Rattle.pg_match.specs.Automata.{Nfa, Edge, Runs}
 use Rattle.pg_match.specs.Closures.{Leads}
 use Rattle.pg_pattern.specs.Bounds.{MayBegin, MayEnd}
@@ -10,6 +9,7 @@ use Rattle.pg_match.specs.Steps.{Reads, LeadsStill, IsStill, Starts, ReadsNone, 
 use Rattle.pg_match.specs.Searches.{IsBest, RunsFrom}
 use Rattle.pg_match.specs.declared.dfa_anchored.KnownSpan.{KnownSpan}
 use Rattle.pg_match.specs.declared.dfa_anchored.KnownSpan.TheVariants.{Longest, Nothing, Unknown}
+use Rattle.pg_match.specs.declared.single_start.AnchoredRun.{AnchoredRun}
 use Rattle.pg_match.specs.declared.state.State.{State}
 
 -- from S alone, with no start behind the byte, the byte leads to U, but for what needs the line's end
@@ -90,8 +90,12 @@ pub record Follows (m : Nfa) (t : Remembered) (l : List ℕ) (s p state : ℕ) (
   pub stands : StandsFrom m l s p (In t (state / 256))
   pub found : IsLastEnd m l s p last
 
+-- in the middle of following an anchored run: the row of the state is the set of its place
+abbrev pub FollowsRun : Nfa → Remembered → List ℕ → AnchoredRun → ℕ → Type 0
+FollowsRun m t l run state = Follows m t l run.start run.place state (Some run.last)
+
 -- the runs from s were followed to p, whose set S is
-pub record Tracks (m : Nfa) (l : List ℕ) (s p last : ℕ) (S : ℕ → Type 0) : Type 0 where
+pub record IsAnchoredRun (m : Nfa) (l : List ℕ) (s p last : ℕ) (S : ℕ → Type 0) : Type 0 where
   pub begins : MayBegin m.bounds l s
   pub onward : s ≤ p
   pub within : p ≤ length l
@@ -101,4 +105,4 @@ pub record Tracks (m : Nfa) (l : List ℕ) (s p last : ℕ) (S : ℕ → Type 0)
 -- S is the set of p in a search from a place on whose best span so far is this one, and no better one begins elsewhere
 abbrev pub IsAlone : Nfa → List ℕ → ℕ → ℕ → (ℕ → Type 0) → Option (ℕ × ℕ) → Type 0
 IsAlone m l from p S None = ⊥
-IsAlone m l from p S (Some b) = (from ≤ b.0) × NothingBefore m l from b.0 × Tracks m l b.0 p b.1 S
+IsAlone m l from p S (Some b) = (from ≤ b.0) × NothingBefore m l from b.0 × IsAnchoredRun m l b.0 p b.1 S

@@ -12,5 +12,6 @@ pub mod Steps
 pub mod Starts
 pub mod Stands
 pub mod Memories
+pub mod Lines
 pub mod Anchored
 pub mod Views

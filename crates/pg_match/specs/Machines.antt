@@ -1,7 +1,7 @@
 -- What a machine was built from.
-use Rattle.std.specs.Prelude.{◌≡◌, ℕ, ◌<◌, ◌⊎◌, List, length, IsTrue}
+use Rattle.std.specs.Prelude.{◌≡◌, ℕ, ◌<◌, ◌⊎◌, ◌↔◌, Bool, IsTrue, List, [], length, Option, Some, None}
 use Rattle.pg_pattern.specs.Patterns.{Pattern}
-use Rattle.pg_pattern.specs.Hits.{Matched}
+use Rattle.pg_pattern.specs.Hits.{HasHit, Matched}
 use Rattle.pg_match.specs.Sizes.{list_size}
 use Rattle.pg_match.specs.Automata.{Nfa, Runs}
 use Rattle.pg_pattern.specs.declared.bounds.Bounds.{Bounds}
@@ -34,3 +34,9 @@ pub record Room : Type 0 where
 -- the scratch was made for this very machine
 abbrev pub Fits : Room → Nfa → Type 0
 Fits room m = room.machine ≡ m
+
+-- whether an empty line has a hit, if that is known
+abbrev pub TellsEmpty : Nfa → Option Bool → Type 0
+TellsEmpty m None = Unit {0}
+TellsEmpty m (Some answer) =
+    (patterns : List Pattern) → Agrees m patterns → IsTrue answer ↔ HasHit patterns m.bounds []

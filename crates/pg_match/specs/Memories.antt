@@ -143,6 +143,12 @@ Learned m old new r b s (Row v) =
 Learned m old new r b s Dead = IsHopeless m b (In old r)
 Learned m old new r b s Lost = (HitBefore m b (In old r) → ⊥) × Goes m b (In old r) (Has s)
 
+-- where the row's set stands before the byte, the answer is whether the line has a match
+abbrev pub Settles : Nfa → ℕ → (ℕ → Type 0) → Bool → Type 0
+Settles m b S answer =
+    (l : List ℕ) (from p : ℕ) → p < length l → Stands m l from p S → slice_get l p ≡ Some b
+    → IsTrue answer ↔ HasRun m l from
+
 -- where the row's set stands before a line's last byte, the answer is whether the line has a match
 abbrev pub Finishes : Nfa → ℕ → (ℕ → Type 0) → Bool → Type 0
 Finishes m b S answer =

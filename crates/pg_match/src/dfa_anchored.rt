@@ -24,8 +24,8 @@ const TRIES: usize = 1_024;
 /// On long lines such a search takes long, so that more is remembered than what it needed.
 const PLACES: usize = 32;
 
-/// Where so many bytes stand behind a place, a search from there learns: before it begins, as far as the bytes before the
-/// place pay for it, and once the runs of one start alone are left.
+/// Where so many bytes stand behind a place, a search from there learns: before it begins, as far as the bytes before
+/// the place pay for it, and once the runs of one start alone are left.
 pub(crate) const LONG: usize = 4_096;
 
 /// What remembered sets tell of the spans that begin at a place and have a byte.
@@ -238,7 +238,8 @@ impl<A: Allocator> Automaton<A> {
         memory.add(&sets.current, accepts)
     }
 
-    /// Goes on from a row at a place as long as the rows are known. Answers the row and the place that it comes to.
+    /// Goes on from a row at a place as long as the rows are known and the line has bytes there. Answers the row and
+    /// the place that it comes to.
     fn walk_alone(&self, memory: &Cache<A>, line: &[u8], state: u32, place: usize) -> (u32, usize)
         requires memory { IsAnchoredMemoryOf (nfa self.now) (remembered memory.now) }
         requires row { IsAtRow (remembered memory.now) state }
@@ -258,7 +259,8 @@ impl<A: Allocator> Automaton<A> {
         (at, here)
     }
 
-    /// Learns more of the runs that begin at a place of a line, as long as there were at most `limit` visits a state.
+    /// Learns more of the runs that begin at a place of a line, as long as there were at most `limit` visits a state;
+    /// nothing where the place is behind the line's end.
     fn study_from(
         &self,
         sets: &mut StateSets<A>,
@@ -308,13 +310,15 @@ impl<A: Allocator> Automaton<A> {
     }
 
     /// Learns more of the runs that begin at a place, and at the next places of which too little is remembered, as long
-    /// as there were at most `limit` visits a state. Answers whether the best span from there on is remembered now.
+    /// as there were at most `limit` visits a state, and at `places` places at most. Answers true only where the best
+    /// span from there on is remembered now.
     fn study_starts(
         &self,
         sets: &mut StateSets<A>,
         memory: &mut Cache<A>,
         line: &[u8],
         start: usize,
+        places: usize,
         limit: usize,
     ) -> bool
         requires built { IsBuilt self.now }
@@ -329,7 +333,7 @@ impl<A: Allocator> Automaton<A> {
         ensures told { Tells sets.old sets.new }
     {
         let mut place = start;
-        for _round in 0..PLACES {
+        for _round in 0..places {
             self.study_from(sets, memory, line, place, limit);
             let (next, end) = self.try_starts(memory, line, place);
             if end.is_some() {
@@ -363,7 +367,7 @@ impl<A: Allocator> Automaton<A> {
         ensures visits { sets.new.visits ≤ (length line.now + 1) * length self.now.states.items }
         ensures told { Tells sets.old sets.new }
     {
-        let is_known = self.study_starts(sets, memory, line, place, line.len());
+        let is_known = self.study_starts(sets, memory, line, place, PLACES, line.len());
         match best {
             Some((first, _)) if !is_known => self.study_from(sets, memory, line, first, line.len()),
             _ => {}
@@ -399,12 +403,13 @@ impl<A: Allocator> Automaton<A> {
         if start == 0 || line.len() - start < LONG {
             return (start, None);
         }
-        self.study_starts(sets, memory, line, start, start - 1);
+        self.study_starts(sets, memory, line, start, line.len(), start - 1);
         self.try_starts(memory, line, start)
     }
 
     /// The best span from a place on, by what is remembered of the runs that begin there and behind it, or else by runs
-    /// of the automaton; then more is remembered, in a share of the room that both tables have.
+    /// of the automaton; then more is remembered, in a share of the room that both tables have. From a line's end there
+    /// is none, and all visits are left to learn of the runs that begin where the line does.
     pub(crate) fn find_from(
         &self,
         sets: &mut StateSets<A>,
@@ -426,6 +431,13 @@ impl<A: Allocator> Automaton<A> {
         ensures visits { sets.new.visits ≤ (length line.now + 1) * length self.now.states.items }
         ensures told { added sets.new ≡ added sets.old + sets.new.visits }
     {
+        if start == line.len() {
+            sets.visits = 0;
+            anchored.leave_room(memory.count.max(SETS / 2));
+            self.study_from(sets, anchored, line, 0, line.len());
+            memory.leave_room(anchored.count);
+            return None;
+        }
         let (known, end) = self.try_starts(anchored, line, start);
         if let Some(end) = end {
             sets.visits = 0;

@@ -8,7 +8,8 @@ ghost use Rattle.pg_pattern.specs.declared.bounds.Bounds.TheVariants.{Whole};
 ghost use Rattle.pg_match.specs.StateSets.{IsGood, HaveRoom};
 ghost use Rattle.pg_match.specs.Stands.{HasRun};
 ghost use Rattle.pg_match.specs.Steps.{Has, Starts, IsQuiet, IsSpent};
-ghost use Rattle.pg_match.specs.Memories.{IsMemoryOf, In, fresh_at, Same, Keeps, IsAtRow, StandsAt, Learned, Finishes};
+ghost use Rattle.pg_match.specs.Memories.{IsMemoryOf, In, fresh_at, Same, Keeps, IsAtRow, StandsAt};
+ghost use Rattle.pg_match.specs.Memories.{Learned, Finishes, Settles};
 ghost use Rattle.pg_match.specs.Views.{nfa, members, buffers, remembered, added, Remembers, Tells, IsBuilt};
 
 use crate::automaton::Automaton;
@@ -227,6 +228,21 @@ impl<A: Allocator> Automaton<A> {
         memory.add(&sets.current, true)
     }
 
+    /// Whether a line has a hit in which a row stands before a byte, if what is remembered of the byte tells that of
+    /// all such lines.
+    pub(crate) fn recall_step(&self, memory: &Cache<A>, state: u32, byte: u8) -> Option<bool>
+        requires built { IsBuilt self.now }
+        requires memory { IsMemoryOf (nfa self.now) (remembered memory.now) }
+        requires row { IsAtRow (remembered memory.now) state }
+        ensures { IfSome result (Settles (nfa self.now) byte (In (remembered memory.now) (state / 256))) }
+    {
+        match memory.steps[state as usize + byte as usize] {
+            HIT => Some(true),
+            DEAD => Some(false),
+            _ => None,
+        }
+    }
+
     /// Whether a match ends right before or behind the last byte of a line, if that is remembered.
     pub(crate) fn recall_end(&self, memory: &Cache<A>, state: u32, byte: u8) -> Option<bool>
         requires built { IsBuilt self.now }
@@ -234,13 +250,10 @@ impl<A: Allocator> Automaton<A> {
         requires row { IsAtRow (remembered memory.now) state }
         ensures { IfSome result (Finishes (nfa self.now) byte (In (remembered memory.now) (state / 256))) }
     {
+        if let Some(answer) = self.recall_step(memory, state, byte) {
+            return Some(answer);
+        }
         let next = memory.steps[state as usize + byte as usize];
-        if next == HIT {
-            return Some(true);
-        }
-        if next == DEAD {
-            return Some(false);
-        }
         if next < 256 {
             return None;
         }

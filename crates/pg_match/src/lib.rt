@@ -19,6 +19,7 @@ mod closure;
 mod dfa_anchored;
 mod dfa_cache;
 mod dfa_cursor;
+mod dfa_line;
 mod dfa_search;
 mod dfa_starts;
 mod machine;
@@ -30,4 +31,5 @@ mod sparse_set;
 mod starts;
 mod state;
 
+pub use dfa_line::KnownLine;
 pub use machine::{BuildFault, Machine, Scratch};

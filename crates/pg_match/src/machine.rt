@@ -1,10 +1,11 @@
 //! Machines, and what a search needs.
-ghost use Rattle.std.specs.Prelude.{◌≡◌, ◌+◌, ◌*◌, ◌^◌, ◌<◌, ◌≤◌, ◌↔◌, List, All};
+ghost use Rattle.std.specs.Prelude.{◌≡◌, ◌+◌, ◌*◌, ◌^◌, ◌<◌, ◌≤◌, ◌↔◌, List, [], All};
 ghost use Rattle.std.specs.Prelude.{length, map, IsTrue, IfOk, IfSome, IsErrOf, MatchOption};
 ghost use Rattle.pg_pattern.specs.Patterns.{Pattern, IsProper};
 ghost use Rattle.pg_pattern.specs.Trees.{pattern};
 ghost use Rattle.pg_match.specs.Sizes.{list_size};
 ghost use Rattle.pg_pattern.specs.Hits.{HasHit, HasNoNext, IsNext};
+ghost use Rattle.pg_match.specs.Lines.{TellsLine};
 ghost use Rattle.pg_match.specs.Machines.{IsMachineOf, IsOfSome, Fits};
 ghost use Rattle.pg_match.specs.Memories.{IsBlank};
 ghost use Rattle.pg_match.specs.Views.{remembered};
@@ -13,6 +14,7 @@ ghost use Rattle.pg_pattern.specs.declared.bounds.Bounds.{Bounds};
 use crate::automaton::Automaton;
 use crate::build::assemble;
 use crate::dfa_cache::Cache;
+use crate::dfa_line::KnownLine;
 use crate::search::StateSets;
 use crate::size::{MAX_STATES, list_size};
 use pg_pattern::{Bounds, Tree};
@@ -60,6 +62,8 @@ pub struct Scratch<A: Allocator = Global> {
     memory: Option<Cache<A>>,
     /// What the runs from one place lead to. None where it wasn't asked for, or the memory for it was refused.
     anchored: Option<Cache<A>>,
+    /// Whether an empty line has a hit, once one was searched.
+    empty: Option<bool>,
 }
 
 impl<A: Allocator> Drop for Scratch<A> {
@@ -69,6 +73,7 @@ impl<A: Allocator> Drop for Scratch<A> {
             sets: _,
             memory: _,
             anchored: _,
+            empty: _,
         } = self;
     }
 }
@@ -76,7 +81,7 @@ impl<A: Allocator> Drop for Scratch<A> {
 impl<A: Allocator> Model for Scratch<A> {
     ghost use Rattle.std.specs.Prelude.{length};
     ghost use Rattle.std.specs.Arc.{arc_value};
-    ghost use Rattle.pg_match.specs.Machines.{Room};
+    ghost use Rattle.pg_match.specs.Machines.{Room, TellsEmpty};
     ghost use Rattle.pg_match.specs.StateSets.{HaveRoom};
     ghost use Rattle.pg_match.specs.Views.{nfa, buffers, added, Remembers, RemembersAnchored};
 
@@ -90,7 +95,8 @@ impl<A: Allocator> Model for Scratch<A> {
 
     ghost invariant = { λ s. HaveRoom (buffers s.sets) (length (nfa (arc_value s.automaton)).states)
         × Remembers s.memory (nfa (arc_value s.automaton))
-        × RemembersAnchored s.anchored (nfa (arc_value s.automaton)) };
+        × RemembersAnchored s.anchored (nfa (arc_value s.automaton))
+        × TellsEmpty (nfa (arc_value s.automaton)) s.empty };
 }
 
 impl From<AllocError> for BuildFault {
@@ -140,8 +146,52 @@ impl<A: Allocator> Machine<A> {
         ensures counted { scratch.new.added ≡ scratch.old.added + scratch.new.visits }
         ensures some { IsOfSome self.now }
     {
+        if line.is_empty() {
+            return self.selects_empty(scratch);
+        }
         let automaton: &Automaton<A> = &self.automaton;
         automaton.selects(&mut scratch.sets, &mut scratch.memory, line)
+    }
+
+    /// Whether an empty line has a hit. It is searched once.
+    fn selects_empty(&self, scratch: &mut Scratch<A>) -> bool
+        requires fits { Fits scratch.old self.now }
+        ensures fits { Fits scratch.new self.now }
+        ensures exact { (patterns : List Pattern) (bounds : Bounds) → IsMachineOf self.now patterns bounds
+            → (IsTrue result ↔ HasHit patterns bounds []) }
+        ensures visits { (patterns : List Pattern) (bounds : Bounds) → IsMachineOf self.now patterns bounds
+            → scratch.new.visits ≤ list_size patterns }
+        ensures counted { scratch.new.added ≡ scratch.old.added + scratch.new.visits }
+        ensures some { IsOfSome self.now }
+    {
+        let automaton: &Automaton<A> = &self.automaton;
+        if let Some(answer) = scratch.empty {
+            scratch.sets.visits = 0;
+            return answer;
+        }
+        let answer = automaton.selects(&mut scratch.sets, &mut scratch.memory, b"");
+        scratch.empty = Some(answer);
+        answer
+    }
+
+    /// What is remembered of the line that some bytes begin with, whose end is looked for by the way: `end` is the byte
+    /// that ends lines. `None` where too little is remembered: then [`Machine::selects`] has to be asked. No state is
+    /// visited. The scratch has to fit the machine.
+    pub fn recall_line(&self, scratch: &Scratch<A>, end: u8, bytes: &[u8]) -> Option<KnownLine>
+        requires fits { Fits scratch.now self.now }
+        ensures known { (patterns : List Pattern) (bounds : Bounds) → IsMachineOf self.now patterns bounds
+            → IfSome result (TellsLine (HasHit patterns bounds) end bytes.now) }
+        ensures some { IsOfSome self.now }
+    {
+        let automaton: &Automaton<A> = &self.automaton;
+        if bytes.is_empty() || bytes[0] == end {
+            let has_hit = scratch.empty?;
+            return Some(KnownLine { has_hit, read: 0 });
+        }
+        match &scratch.memory {
+            Some(memory) if automaton.some => automaton.recall_line(memory, end, bytes),
+            _ => None,
+        }
     }
 
     /// The matched part that -o shows next: of the spans from `from` on that are matched and not
@@ -249,6 +299,7 @@ impl<A: Allocator> Scratch<A> {
             sets,
             memory,
             anchored,
+            empty: None,
         })
     }
 

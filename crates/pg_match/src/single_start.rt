@@ -1,6 +1,6 @@
 //! Where the longest span from a start ends, once the runs of no other start are left.
 ghost use Rattle.std.specs.Prelude.{◌≡◌, ◌+◌, ◌-◌, ◌*◌, ◌/◌, ◌<◌, ◌≤◌, ◌^◌, length, IfSome, IsTrue, Some};
-ghost use Rattle.pg_match.specs.Anchored.{IsAnchoredMemoryOf, IsLongestFrom, Follows, Tracks};
+ghost use Rattle.pg_match.specs.Anchored.{IsAnchoredMemoryOf, IsLongestFrom, FollowsRun, IsAnchoredRun};
 ghost use Rattle.pg_pattern.specs.Bounds.{MayBegin, MayEnd};
 ghost use Rattle.pg_match.specs.Memories.{In, Same};
 ghost use Rattle.pg_match.specs.Searches.{IsBest};
@@ -17,7 +17,7 @@ use std::mem;
 
 /// The runs from a start, as far as they were followed.
 #[derive(Clone, Copy)]
-pub(crate) struct Track {
+pub(crate) struct AnchoredRun {
     /// Where they began.
     pub start: usize,
     /// The place that they have come to.
@@ -28,21 +28,21 @@ pub(crate) struct Track {
 
 impl<A: Allocator> Automaton<A> {
     /// Where the longest span from a start ends, by the runs in the set of a place, without what is remembered.
-    fn track_on(&self, sets: &mut StateSets<A>, line: &[u8], track: Track) -> usize
+    fn finish_by_states(&self, sets: &mut StateSets<A>, line: &[u8], run: AnchoredRun) -> usize
         requires built { IsBuilt self.now }
         requires room { HaveRoom (buffers sets.old) (length self.now.states.items) }
         requires short { length line.now ≤ 2 ^ 30 }
-        requires tracks { Tracks (nfa self.now) line.now track.start track.place track.last
+        requires run { IsAnchoredRun (nfa self.now) line.now run.start run.place run.last
             (Has (members sets.old.current)) }
         requires visits { sets.old.visits < 2 ^ 98 }
         ensures room { HaveRoom (buffers sets.new) (length self.now.states.items) }
-        ensures longest { IsLongestFrom (nfa self.now) line.now track.start result }
+        ensures longest { IsLongestFrom (nfa self.now) line.now run.start result }
         ensures visits { sets.new.visits
-            ≤ sets.old.visits + (length line.now - track.place + 1) * length self.now.states.items }
+            ≤ sets.old.visits + (length line.now - run.place + 1) * length self.now.states.items }
         ensures told { Tells sets.old sets.new }
     {
-        let mut last = track.last;
-        for place in track.place..line.len() {
+        let mut last = run.last;
+        for place in run.place..line.len() {
             self.go_on(sets, line[place], false);
             if sets.current.len == 0 {
                 return last;
@@ -60,32 +60,30 @@ impl<A: Allocator> Automaton<A> {
 
     /// One step of the runs from a start, where the row that it leads to is known. The row's number comes 256 times.
     #[inline(always)]
-    fn step_known(
+    fn cached_step(
         &self,
         memory: &Cache<A>,
         line: &[u8],
         state: u32,
-        track: Track,
-    ) -> Option<(u32, Track)>
+        run: AnchoredRun,
+    ) -> Option<(u32, AnchoredRun)>
         requires built { IsBuilt self.now }
         requires memory { IsAnchoredMemoryOf (nfa self.now) (remembered memory.now) }
-        requires follows { Follows (nfa self.now) (remembered memory.now) line.now track.start track.place state
-            (Some track.last) }
-        ensures start { IfSome result (λ r. r.1.start ≡ track.start) }
-        ensures place { IfSome result (λ r. r.1.place ≡ track.place + 1) }
-        ensures follows { IfSome result (λ r. Follows (nfa self.now) (remembered memory.now) line.now r.1.start r.1.place
-            r.0 (Some r.1.last)) }
+        requires follows { FollowsRun (nfa self.now) (remembered memory.now) line.now run state }
+        ensures start { IfSome result (λ r. r.1.start ≡ run.start) }
+        ensures place { IfSome result (λ r. r.1.place ≡ run.place + 1) }
+        ensures follows { IfSome result (λ r. FollowsRun (nfa self.now) (remembered memory.now) line.now r.1 r.0) }
     {
-        if track.place >= line.len() {
+        if run.place >= line.len() {
             return None;
         }
-        let next = memory.steps[state as usize + line[track.place] as usize];
+        let next = memory.steps[state as usize + line[run.place] as usize];
         if next < 256 {
             return None;
         }
-        let on = Track {
-            place: track.place + 1,
-            ..track
+        let on = AnchoredRun {
+            place: run.place + 1,
+            ..run
         };
         if !memory.fresh[(next / 256) as usize] {
             return Some((next, on));
@@ -93,7 +91,7 @@ impl<A: Allocator> Automaton<A> {
         if !self.bounds.may_end(line, on.place) {
             return Some((next, on));
         }
-        let ended = Track {
+        let ended = AnchoredRun {
             last: on.place,
             ..on
         };
@@ -101,19 +99,23 @@ impl<A: Allocator> Automaton<A> {
     }
 
     /// Follows the runs from a start from row to row, as long as the rows are known.
-    fn track_known(&self, memory: &Cache<A>, line: &[u8], state: u32, track: Track) -> (u32, Track)
+    fn follow_cached(
+        &self,
+        memory: &Cache<A>,
+        line: &[u8],
+        state: u32,
+        run: AnchoredRun,
+    ) -> (u32, AnchoredRun)
         requires built { IsBuilt self.now }
         requires memory { IsAnchoredMemoryOf (nfa self.now) (remembered memory.now) }
-        requires follows { Follows (nfa self.now) (remembered memory.now) line.now track.start track.place state
-            (Some track.last) }
-        ensures start { result.1.start ≡ track.start }
-        ensures onward { track.place ≤ result.1.place }
-        ensures follows { Follows (nfa self.now) (remembered memory.now) line.now result.1.start result.1.place
-            result.0 (Some result.1.last) }
+        requires follows { FollowsRun (nfa self.now) (remembered memory.now) line.now run state }
+        ensures start { result.1.start ≡ run.start }
+        ensures onward { run.place ≤ result.1.place }
+        ensures follows { FollowsRun (nfa self.now) (remembered memory.now) line.now result.1 result.0 }
     {
         let mut state = state;
-        let mut at = track;
-        while let Some((next, then)) = self.step_known(memory, line, state, at) {
+        let mut at = run;
+        while let Some((next, then)) = self.cached_step(memory, line, state, at) {
             state = next;
             at = then;
         }
@@ -121,46 +123,45 @@ impl<A: Allocator> Automaton<A> {
     }
 
     /// Where the longest span from a start ends, from a row on whose next step isn't known.
-    fn track_off(
+    fn finish_uncached(
         &self,
         sets: &mut StateSets<A>,
         memory: &Cache<A>,
         line: &[u8],
         state: u32,
-        track: Track,
+        run: AnchoredRun,
     ) -> usize
         requires built { IsBuilt self.now }
         requires room { HaveRoom (buffers sets.old) (length self.now.states.items) }
         requires memory { IsAnchoredMemoryOf (nfa self.now) (remembered memory.now) }
         requires short { length line.now ≤ 2 ^ 30 }
-        requires begins { MayBegin self.now.bounds line.now track.start }
-        requires follows { Follows (nfa self.now) (remembered memory.now) line.now track.start track.place state
-            (Some track.last) }
+        requires begins { MayBegin self.now.bounds line.now run.start }
+        requires follows { FollowsRun (nfa self.now) (remembered memory.now) line.now run state }
         requires visits { sets.old.visits < 2 ^ 98 }
         ensures room { HaveRoom (buffers sets.new) (length self.now.states.items) }
-        ensures longest { IsLongestFrom (nfa self.now) line.now track.start result }
+        ensures longest { IsLongestFrom (nfa self.now) line.now run.start result }
         ensures visits { sets.new.visits
-            ≤ sets.old.visits + (length line.now - track.place + 1) * length self.now.states.items }
+            ≤ sets.old.visits + (length line.now - run.place + 1) * length self.now.states.items }
         ensures told { Tells sets.old sets.new }
     {
-        if track.place < line.len() {
-            let next = memory.steps[state as usize + line[track.place] as usize];
+        if run.place < line.len() {
+            let next = memory.steps[state as usize + line[run.place] as usize];
             if next == DEAD {
-                return track.last;
+                return run.last;
             }
         }
         memory.load((state / 256) as usize, &mut sets.current);
-        self.track_on(sets, line, track)
+        self.finish_by_states(sets, line, run)
     }
 
     /// Where the longest span from a start ends, from a row on. What isn't remembered is learned.
-    fn track_rows(
+    fn finish_by_cache(
         &self,
         sets: &mut StateSets<A>,
         memory: &mut Cache<A>,
         line: &[u8],
         row: usize,
-        track: Track,
+        run: AnchoredRun,
     ) -> usize
         requires built { IsBuilt self.now }
         requires room { HaveRoom (buffers sets.old) (length self.now.states.items) }
@@ -168,27 +169,27 @@ impl<A: Allocator> Automaton<A> {
         requires some { 2 ≤ memory.old.count }
         requires known { row ≤ memory.old.count }
         requires short { length line.now ≤ 2 ^ 30 }
-        requires tracks { Tracks (nfa self.now) line.now track.start track.place track.last
+        requires run { IsAnchoredRun (nfa self.now) line.now run.start run.place run.last
             (In (remembered memory.old) row) }
         requires visits { sets.old.visits < 2 ^ 96 }
         ensures room { HaveRoom (buffers sets.new) (length self.now.states.items) }
         ensures memory { IsAnchoredMemoryOf (nfa self.now) (remembered memory.new) }
-        ensures longest { IsLongestFrom (nfa self.now) line.now track.start result }
+        ensures longest { IsLongestFrom (nfa self.now) line.now run.start result }
         ensures visits { sets.new.visits
-            ≤ sets.old.visits + (length line.now - track.place + 2) * length self.now.states.items }
+            ≤ sets.old.visits + (length line.now - run.place + 2) * length self.now.states.items }
         ensures told { Tells sets.old sets.new }
     {
-        let (mut state, mut at) = self.track_known(memory, line, 256 * row as u32, track);
+        let (mut state, mut at) = self.follow_cached(memory, line, 256 * row as u32, run);
         while at.place < line.len() {
             self.learn_alone(sets, memory, (state / 256) as usize, line[at.place]);
-            let Some((next, then)) = self.step_known(memory, line, state, at) else {
-                return self.track_off(sets, memory, line, state, at);
+            let Some((next, then)) = self.cached_step(memory, line, state, at) else {
+                return self.finish_uncached(sets, memory, line, state, at);
             };
-            let (further, there) = self.track_known(memory, line, next, then);
+            let (further, there) = self.follow_cached(memory, line, next, then);
             state = further;
             at = there;
         }
-        self.track_off(sets, memory, line, state, at)
+        self.finish_uncached(sets, memory, line, state, at)
     }
 
     /// Whether the rows of starts, so many of the first two, are there or were added. Those before the last one are.
@@ -257,35 +258,35 @@ impl<A: Allocator> Automaton<A> {
     }
 
     /// Where the longest span from a start ends, by the runs in the set of a place.
-    fn track(
+    fn finish_anchored(
         &self,
         sets: &mut StateSets<A>,
         memory: &mut Cache<A>,
         line: &[u8],
-        track: Track,
+        run: AnchoredRun,
     ) -> usize
         requires built { IsBuilt self.now }
         requires room { HaveRoom (buffers sets.old) (length self.now.states.items) }
         requires memory { IsAnchoredMemoryOf (nfa self.now) (remembered memory.old) }
         requires short { length line.now ≤ 2 ^ 30 }
-        requires tracks { Tracks (nfa self.now) line.now track.start track.place track.last
+        requires run { IsAnchoredRun (nfa self.now) line.now run.start run.place run.last
             (Has (members sets.old.current)) }
         requires visits { sets.old.visits < 2 ^ 95 }
         ensures room { HaveRoom (buffers sets.new) (length self.now.states.items) }
         ensures memory { IsAnchoredMemoryOf (nfa self.now) (remembered memory.new) }
-        ensures longest { IsLongestFrom (nfa self.now) line.now track.start result }
+        ensures longest { IsLongestFrom (nfa self.now) line.now run.start result }
         ensures visits { sets.new.visits
-            ≤ sets.old.visits + (length line.now - track.place + 4) * length self.now.states.items }
+            ≤ sets.old.visits + (length line.now - run.place + 4) * length self.now.states.items }
         ensures told { Tells sets.old sets.new }
     {
         match self.row_alone(sets, memory) {
-            Some(row) => self.track_rows(sets, memory, line, row, track),
-            None => self.track_on(sets, line, track),
+            Some(row) => self.finish_by_cache(sets, memory, line, row, run),
+            None => self.finish_by_states(sets, line, run),
         }
     }
 
-    /// The best span from a place on, by runs of the automaton until those of one start alone are left, and then by what
-    /// is remembered of them, where many bytes are still to come.
+    /// The best span from a place on, by runs of the automaton until those of one start alone are left, and then by
+    /// what is remembered of them, where many bytes are still to come.
     pub(crate) fn find_long(
         &self,
         sets: &mut StateSets<A>,
@@ -311,7 +312,7 @@ impl<A: Allocator> Automaton<A> {
             return best;
         };
         let (start, last) = best?;
-        let track = Track { start, place, last };
-        Some((start, self.track(sets, memory, line, track)))
+        let run = AnchoredRun { start, place, last };
+        Some((start, self.finish_anchored(sets, memory, line, run)))
     }
 }

@@ -3,7 +3,6 @@ use Rattle.pg_match.specs.Machines.{Fits}
 use Rattle.pg_blocks.specs.Lines.{AreShort}
 use Rattle.pg_selection.specs.Search.{Pattern, AreTreesOf, search_of, uninverted, terminator_of}
 use Rattle.pg_selection.specs.Runs.{AllLines}
-use Rattle.pg_lines.specs.Finding.{TellsEmpty}
 use Rattle.pg_lines.proofs.RunLemmas.{IsPassed}
 use Rattle.pg_lines.proofs.search.next_matched.Given as goal
 
@@ -11,7 +10,6 @@ use Rattle.pg_lines.proofs.search.next_matched.Given as goal
 abbrev pub invariant-loop-start : goal.invariant-loop-start
 invariant-loop-start g l = record {
   fits : Fits l.scratch l.query.machine;
-  empty : TellsEmpty l.query.text l.empty;
   within : l.start ≤ length l.rest;
   passed : IsPassed (terminator_of l.query.text) l.rest l.start;
   unselected : (trees : List Pattern) → AreTreesOf l.query.text trees

@@ -42,7 +42,8 @@ overflow_add-sets g c =
 pub study_both-requires-clause-visits : goal.study_both-requires-clause-visits
 study_both-requires-clause-visits g c =
     let b = c.study_before-place in
-    visits_both b.result.0 (length c.args.line.now) _ _ _ b.ensures.onward.1 c.find_long-best.ensures.visits b.ensures.visits
+    visits_both b.result.0 (length c.args.line.now) _ _ _ b.ensures.onward.1 c.find_long-best.ensures.visits
+    b.ensures.visits
 
 pub returns-clause-best : goal.returns-clause-best
 returns-clause-best g c =

@@ -15,8 +15,8 @@ returns-clause-best g c =
     let left = subst (λ o. IfSome o (λ place. (place < c.saturating_sub-far.result)
     × IsAlone m l c.args.from place S c.find_until-best.result.0)) c.in-Some.is c.find_until-best.ensures.left in
     let alone = subst (λ b. IsAlone m l c.args.from c.in-Some.place S b) c.in_ok-start.was left.1 in
-    best_behind m l c.args.from c.in_ok-start.start (Some (c.in_ok-start.start, c.track.result)) alone.0 alone.1
-    c.track.ensures.longest
+    best_behind m l c.args.from c.in_ok-start.start (Some (c.in_ok-start.start, c.finish_anchored.result)) alone.0
+    alone.1 c.finish_anchored.ensures.longest
 
 pub returns-clause-visits : goal.returns-clause-visits
 returns-clause-visits g c =
@@ -32,5 +32,5 @@ returns-clause-visits g c =
     left.1 in
     let spare = subst (λ o. IfSome o (λ p. before + 4 * n ≤ (p - c.args.from) * n)) c.in-Some.is
     c.find_until-best.ensures.spare in
-    visits_spared (place - c.args.from) (l - place) (l - c.args.from) n _ _ spare c.track.ensures.visits
+    visits_spared (place - c.args.from) (l - place) (l - c.args.from) n _ _ spare c.finish_anchored.ensures.visits
     (omega (arith, alone.0, alone.2.onward, alone.2.within))

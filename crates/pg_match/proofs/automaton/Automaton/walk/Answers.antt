@@ -1,6 +1,6 @@
 use Rattle.std.proofs.Common.{◌<◌, ◌+◌, length, get_or, arith}
 use Rattle.pg_match.specs.Views.{nfa, remembered}
-use Rattle.pg_match.proofs.CacheLemmas.{walking_read, in_table}
+use Rattle.pg_match.proofs.CacheLemmas.{in_table, walking_four, walking_read}
 use Rattle.pg_match.proofs.automaton.Automaton.walk.Goals as goal
 
 pub index-one-requires : goal.index-one-requires
@@ -77,28 +77,12 @@ index-four-requires g c =
 
 pub loop-place-preserved : goal.loop-place-preserved
 loop-place-preserved g c =
-    let m = nfa c.args.self.now in
-    let mem = remembered c.args.memory.now in
-    let l = c.args.line.now in
-    let p = c.loop-place.place in
-    let w0 = c.loop-place.invariant in
-    let more : p + 4 < length l = omega (arith, c.loop-place-test.true) in
-    let w1 = walking_read m mem l c.args.from c.args.state p (p + 1) c.loop-place.at
-    c.index-one.result.now (omega arith) c.requires.built.runs c.requires.memory (omega (arith, c.type_inv.line p))
-    (omega arith) c.index-one.ensures c.if-one-lt256.false w0 in
-    let w2 = walking_read m mem l c.args.from c.args.state (p + 1) (p + 2) c.index-one.result.now
-    c.index-two.result.now (omega arith) c.requires.built.runs c.requires.memory
-    (omega (arith, c.type_inv.line (p + 1)))
-    (omega arith) c.index-two.ensures c.if-two-lt256.false w1 in
-    let w3 = walking_read m mem l c.args.from c.args.state (p + 2) (p + 3) c.index-two.result.now
-    c.index-three.result.now (omega arith) c.requires.built.runs c.requires.memory
-    (omega (arith, c.type_inv.line (p + 2)))
-    (omega arith) c.index-three.ensures c.if-three-lt256.false w2 in
-    let w4 = walking_read m mem l c.args.from c.args.state (p + 3) (p + 4) c.index-three.result.now
-    c.index-four.result.now (omega arith) c.requires.built.runs c.requires.memory
-    (omega (arith, c.type_inv.line (p + 3)))
-    (omega arith) c.index-four.ensures c.if-four-lt256.false w3 in
-    w4
+    walking_four (nfa c.args.self.now) (remembered c.args.memory.now) c.args.line.now c.args.from c.args.state
+    c.loop-place.place c.loop-place.at c.index-one.result.now c.index-two.result.now c.index-three.result.now
+    c.index-four.result.now c.requires.built.runs c.requires.memory (λ i. omega (arith, c.type_inv.line i))
+    (omega (arith, c.loop-place-test.true)) c.index-one.ensures c.if-one-lt256.false c.index-two.ensures
+    c.if-two-lt256.false c.index-three.ensures c.if-three-lt256.false c.index-four.ensures c.if-four-lt256.false
+    c.loop-place.invariant
 
 pub loop-place-2-preserved : goal.loop-place-2-preserved
 loop-place-2-preserved g c =

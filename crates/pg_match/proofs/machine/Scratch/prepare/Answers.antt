@@ -19,4 +19,5 @@ invariant_of-result g c =
       subst (HaveRoom (buffers c.in_ok-sets.sets)) (c.len.ensures ∙ states.ok.0 ∙ same) room,
       rw c.ok-memory.ensures.value memory,
       blank_anchored c.table-anchored.result c.len-3.result m c.table-anchored.ensures size_too,
+      tt,
     )

@@ -1,0 +1,24 @@
+-- What is known of the line that some bytes begin with before its end is.
+use Rattle.std.specs.Prelude.{◌≡◌, ℕ, ◌<◌, ◌≤◌, ◌↔◌, IsTrue, List, length, take, slice_index}
+use Rattle.pg_match.specs.Automata.{Nfa}
+use Rattle.pg_match.specs.Memories.{Remembered, IsAtRow, StandsAt}
+use Rattle.pg_match.specs.declared.dfa_line.KnownLine.{KnownLine}
+
+-- the text of the first line is the first n bytes: those before the first byte that ends lines, or all (XBD 3.206)
+pub record IsFirstText (end : ℕ) (bytes : List ℕ) (n : ℕ) : Type 0 where
+  pub within : n ≤ length bytes
+  pub clear : (i : ℕ) → i < n → slice_index bytes i ≡ end → ⊥
+  pub ended : n < length bytes → slice_index bytes n ≡ end
+
+-- whether the first line is as it is told of, of which so many bytes were read
+pub record TellsLine (P : List ℕ → Type 0) (end : ℕ) (bytes : List ℕ) (known : KnownLine) : Type 0 where
+  pub within : known.read ≤ length bytes
+  pub clear : (i : ℕ) → i < known.read → slice_index bytes i ≡ end → ⊥
+  pub told : (n : ℕ) → IsFirstText end bytes n → IsTrue known.has_hit ↔ P (take n bytes)
+
+-- the row of the state is the set of a place in the first line, wherever behind that place the line ends
+pub record StandsInLine (m : Nfa) (t : Remembered) (end : ℕ) (bytes : List ℕ) (state p : ℕ) : Type 0 where
+  pub within : p < length bytes
+  pub clear : (i : ℕ) → i ≤ p → slice_index bytes i ≡ end → ⊥
+  pub row : IsAtRow t state
+  pub stands : (n : ℕ) → p < n → n ≤ length bytes → StandsAt m t (take n bytes) 0 p state
