@@ -1,9 +1,10 @@
 -- The first line of some bytes, walked by remembered sets before its end is known.
-use Rattle.std.proofs.Common.{◌≡◌, ◌∙◌, ℕ, ◌+◌, ◌/◌, ◌<◌, ◌≤◌, ◌⊎◌, ◌-◌, inl, inr, List, [], length}
-use Rattle.std.proofs.Common.{take, Bool, Option, Some, None, IsTrue, ◌↔◌, refl, ap, subst, arith, get_or}
+use Rattle.std.proofs.Common.{◌≡◌, ◌∙◌, ℕ, ◌+◌, ◌/◌, ◌<◌, ◌≤◌, ◌⊎◌, ◌-◌, inl, inr, List, [], length, length-drop}
+use Rattle.std.proofs.Common.{take, drop, Bool, Option, Some, None, IsTrue, ◌↔◌, refl, sym, ap, subst, arith, get_or}
 use Rattle.std.specs.Prelude.{slice_get, slice_index, IfSome}
-use Rattle.std.proofs.lemmas.Bool.{cases_lt}
-use Rattle.std.proofs.lemmas.List.{get_or-take, get_or_read, length-take-le}
+use Rattle.memchr.specs.Find.{IsFirstByte, Nowhere, Passes, is_byte}
+use Rattle.std.proofs.lemmas.Bool.{cases_lt, eq-eqb, eqb-true}
+use Rattle.std.proofs.lemmas.List.{get_or-drop, get_or-take, get_or_read, length-take-le}
 use Rattle.std.proofs.lemmas.Option.{slice_get-get_or}
 use Rattle.pg_match.specs.Automata.{Nfa, IsRunnable}
 use Rattle.pg_pattern.specs.Hits.{HasHit}
@@ -48,6 +49,36 @@ line_empty P end bytes answer empty so = line_whole P end bytes answer 0 first s
       clear = λ i lt same. absurd (omega arith);
       ended = λ some. elim empty [ inl none ↦ absurd (omega arith) | inr stops ↦ stops ];
     }
+
+-- what a search for the end behind a place finds
+module _ (end : ℕ) (bytes : List ℕ) (p : ℕ) (lt : p < length bytes)
+    (clear : (i : ℕ) → i ≤ p → slice_index bytes i ≡ end → ⊥) where
+  behind : (i : ℕ) → p < i → slice_index (drop (p + 1) bytes) (i - (p + 1)) ≡ slice_index bytes i
+  behind i later =
+      let to_i : p + 1 + (i - (p + 1)) ≡ i = omega arith in
+      get_or-drop (p + 1) bytes (i - (p + 1)) 0 ∙ ap (slice_index bytes) to_i
+
+  clear_upto : (k : ℕ) → Nowhere (Passes (is_byte end) (drop (p + 1) bytes)) 0 k → (i : ℕ) → i < p + 1 + k
+      → slice_index bytes i ≡ end → ⊥
+  clear_upto k none i upto same = elim (cases_lt p i) [
+    | inl later ↦ none (i - (p + 1)) (omega arith) (omega arith) (eq-eqb _ end (behind i later ∙ same))
+    | inr inside ↦ clear i inside same
+  ]
+
+  pub first_found : (k : ℕ) → IsFirstByte (is_byte end) (drop (p + 1) bytes) (Some k)
+      → IsFirstText end bytes (p + 1 + k)
+  first_found k found = record {
+    within = omega (arith, found.0.high, length-drop (p + 1) bytes);
+    clear = clear_upto k found.0.before;
+    ended = λ some. sym (get_or-drop (p + 1) bytes k 0) ∙ eqb-true _ end found.1;
+  }
+
+  pub first_none : IsFirstByte (is_byte end) (drop (p + 1) bytes) None → IsFirstText end bytes (length bytes)
+  first_none none = record {
+    within = omega arith;
+    clear = λ i inside. clear_upto (length (drop (p + 1) bytes)) none i (omega (arith, length-drop (p + 1) bytes));
+    ended = λ past. absurd (omega arith);
+  }
 
 module _ (m : Nfa) (mem : Remembered) (end : ℕ) (bytes : List ℕ) (is_m : IsRunnable m) (is : IsMemoryOf m mem) where
   -- the first place of a line that isn't empty

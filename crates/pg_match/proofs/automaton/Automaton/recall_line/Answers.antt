@@ -25,9 +25,9 @@ returns-then-read-bytes g c =
     ])
     c.in_ok-has_hit.ensures
 
-pub returns : goal.returns
-returns g c =
+pub returns-in-Some : goal.returns-in-Some
+returns-in-Some g c =
     let a = c.args in
     let w = c.walk_line-state in
     line_settled (nfa a.self.now) (remembered a.memory.now) a.end a.bytes.now c.requires.built.runs c.requires.memory
-    w.result.0 w.result.1 w.ensures c.in_ok-has_hit-2.has_hit c.in_ok-has_hit-2.ensures
+    w.result.0 w.result.1 w.ensures c.in-Some.has_hit c.in-Some.ensures
