@@ -138,8 +138,8 @@ fn show_known(machine: &Machine, scratch: &Scratch, bytes: &[u8], out: &mut Stri
     let _ = write!(out, " {known:?}");
 }
 
-/// Shows what is remembered of the first line of some bytes before and after it was searched. The scratch is the
-/// machine's.
+/// Shows what is remembered of the first line of some bytes, at most 2^30, before and after it was searched. The
+/// scratch is the machine's.
 fn show_recalled(machine: &Machine, scratch: &mut Scratch, bytes: &[u8], out: &mut String)
     requires fits { Fits scratch.old machine.now }
     requires short { length bytes.now ≤ 2 ^ 30 }

@@ -7,10 +7,9 @@ use Rattle.std.proofs.lemmas.List.{append-nil, drop_all, drop-drop, drop_more, g
 use Rattle.std.proofs.lemmas.List.{take-append-drop}
 use Rattle.pg_blocks.specs.Lines.{lines, AreWhole, AreShort}
 use Rattle.pg_blocks.proofs.LineLemmas.{lines-alone, lines-line}
-use Rattle.pg_match.specs.Lines.{IsFirstText, TellsLine}
+use Rattle.pg_match.specs.Lines.{IsFirstText, IsTextAt, TellsLine}
 use Rattle.pg_match.specs.declared.dfa_line.KnownLine.{KnownLine}
 use Rattle.pg_lines.specs.Candidates.{IsLineAt}
-use Rattle.pg_lines.specs.Finding.{IsTextAt}
 use Rattle.pg_lines.proofs.RunLemmas.{IsPassed, is_line, line_at}
 
 -- the next line starts behind the terminator, or there is none
@@ -97,8 +96,9 @@ module _ (end : ℕ) (bytes : List ℕ) (start : ℕ) where
       let size = length-drop start bytes in
       let to_stop : start + (stop - start) ≡ stop = omega (arith, t.onward) in
       record {
+        onward = omega arith;
         within = omega (arith, size, t.within);
-        clear = λ i lt same. t.clear (start + i) (omega arith) (omega (arith, t.onward))
+        clear = λ i low lt same. t.clear (start + i) (omega arith) (omega (arith, t.onward))
             (sym (get_or-drop start bytes i 0) ∙ same);
         ended = λ lt. at_rest stop t.onward ∙ t.ended (omega (arith, size, t.onward));
       }

@@ -1,7 +1,7 @@
 -- What a search for lines with a hit needs, and what it finds.
-use Rattle.std.specs.Prelude.{◌≡◌, ℕ, ◌<◌, ◌≤◌, true, false, List, length, drop, slice_index}
+use Rattle.std.specs.Prelude.{◌≡◌, ℕ, ◌<◌, ◌≤◌, true, false, List, length, drop}
 use Rattle.pg_match.specs.Machines.{Fits, Room}
-use Rattle.pg_blocks.specs.Lines.{AreShort, IsClear}
+use Rattle.pg_blocks.specs.Lines.{AreShort}
 use Rattle.pg_blocks.specs.declared.span.Span.{Span}
 use Rattle.pg_selection.specs.Search.{SearchText, Pattern, AreTreesOf, search_of, uninverted, terminator_of}
 use Rattle.pg_selection.specs.Selection.{has_hit}
@@ -22,13 +22,6 @@ pub record CanSearch {A B : Type 0} (query : Compiled) (bytes : List ℕ) (sets 
   pub needles : AreNeedles query.text bytes at sought
   pub fits : Fits scratch query.machine
   pub short : AreShort (terminator_of query.text) (drop at bytes)
-
--- from a place inside a line on, its text goes up to another: the terminator stands there first, or the bytes end
-pub record IsTextAt (end : ℕ) (bytes : List ℕ) (place stop : ℕ) : Type 0 where
-  pub onward : place ≤ stop
-  pub within : stop ≤ length bytes
-  pub clear : IsClear end bytes place stop
-  pub ended : stop < length bytes → slice_index bytes stop ≡ end
 
 -- the first line with a hit at or behind a place where a line starts, with its terminator
 pub record IsNextHit (text : SearchText) (bytes : List ℕ) (at : ℕ) (line : Span) : Type 0 where

@@ -10,7 +10,7 @@ use pg_literal::Literal;
 use pg_selection::Found;
 use std::alloc::{AllocError, Allocator};
 
-/// Whether each line has a hit, since a literal without a byte is enough.
+/// Whether each line has a hit, since one of the query's literals has no byte and is enough.
 pub(crate) fn hits_each_line<A: Allocator>(query: &Query<A>, literals: &[Literal<A>]) -> bool
     requires { AreLiterals query.now.text (map data_of literals.now) }
     ensures { IsTrue result → HitsEachLine query.now.text }
@@ -20,7 +20,8 @@ pub(crate) fn hits_each_line<A: Allocator>(query: &Query<A>, literals: &[Literal
         .any(|literal| literal.is_enough && literal.text.is_empty())
 }
 
-/// All lines as one run, or none with -v, and their number.
+/// All lines as one run, or none with -v, and their number, where each line has a hit and parts aren't asked for. The
+/// only error is a refused request for memory.
 pub(crate) fn runs_of_each_line<A: Allocator + Copy>(
     alloc: A,
     query: &Query<A>,

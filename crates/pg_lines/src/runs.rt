@@ -9,7 +9,7 @@ use pg_blocks::{Span, count_lines};
 use pg_selection::Run;
 use std::alloc::{AllocError, Allocator};
 
-/// Keeps a run, unless it is empty.
+/// Keeps a run, unless it is empty. The only error is a refused request for memory.
 pub(crate) fn push_run<A: Allocator>(runs: &mut Vec<Run, A>, run: Run) -> Result<(), AllocError>
     ensures { OnOk result (runs.new.items ≡ runs.old.items
         ++ (if nat_lt run.span.start run.span.end then run ∷ [] else [])) }
@@ -20,7 +20,8 @@ pub(crate) fn push_run<A: Allocator>(runs: &mut Vec<Run, A>, run: Run) -> Result
     Ok(())
 }
 
-/// The run of a line that stands apart from the run before it.
+/// The run of a line that starts at or behind the end of the run before it, up to which there are no more lines than
+/// bytes.
 fn run_behind(end: u8, bytes: &[u8], run: Run, line: Span) -> Run
     requires few { run.first + run.count ≤ run.span.end }
     requires apart { run.span.end ≤ line.start }
@@ -38,7 +39,9 @@ fn run_behind(end: u8, bytes: &[u8], run: Run, line: Span) -> Run
     }
 }
 
-/// The open run with the next selected line. One that the line stands apart from is closed, and the line opens another.
+/// The open run with the next selected line, which starts at or behind its end. Where bytes stand between them the run
+/// is closed, and the line opens another. Up to the end of a run there are no more lines than bytes. The only error is a
+/// refused request for memory.
 pub(crate) fn with_line<A: Allocator>(
     runs: &mut Vec<Run, A>,
     run: Run,
@@ -70,7 +73,7 @@ pub(crate) fn with_line<A: Allocator>(
     }
 }
 
-/// The run of all lines from one place up to another, behind so many lines.
+/// The run of all lines from one place up to another, behind so many lines, which are no more than the bytes before it.
 pub(crate) fn run_between(end: u8, bytes: &[u8], at: usize, stop: usize, first: usize) -> Run
     requires few { first ≤ at }
     requires within { (at ≤ stop) × (stop ≤ length bytes.now) }

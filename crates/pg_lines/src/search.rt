@@ -3,6 +3,7 @@ ghost use Rattle.std.specs.Prelude.{◌≡◌, ◌⊎◌, ℕ, ◌+◌, ◌<◌,
 ghost use Rattle.std.specs.Prelude.{drop, slice_range, true, false};
 ghost use Rattle.std.specs.Arc.{arc_value};
 ghost use Rattle.pg_literal.specs.Literals.{as_searched};
+ghost use Rattle.pg_match.specs.Lines.{IsTextAt};
 ghost use Rattle.pg_match.specs.Machines.{Fits};
 ghost use Rattle.pg_blocks.specs.Lines.{lines, AreShort};
 ghost use Rattle.pg_selection.specs.Search.{Pattern, AreTreesOf, search_of, terminator_of};
@@ -12,7 +13,7 @@ ghost use Rattle.pg_lines.specs.Queries.{IsCompiled};
 ghost use Rattle.pg_lines.specs.Literals.{AreLiterals, TellHeads, data_of};
 ghost use Rattle.pg_lines.specs.Strings.{AreBlockStrings, IsSetOf, JudgesLine};
 ghost use Rattle.pg_lines.specs.Candidates.{AreNeedles, literals_sought};
-ghost use Rattle.pg_lines.specs.Finding.{CanSearch, HasNoNextHit, IsNextHit, IsTextAt};
+ghost use Rattle.pg_lines.specs.Finding.{CanSearch, HasNoNextHit, IsNextHit};
 
 use crate::every_line::{hits_each_line, runs_of_each_line};
 use crate::literal_set::{LiteralSet, fixed_strings};
@@ -60,7 +61,8 @@ fn has_hit<A: Allocator>(
     }
 }
 
-/// Where the text of a line ends: at its terminator, which doesn't stand before a place, or where the bytes end.
+/// Where the text of a line ends that goes on up to a place, at most the count of bytes: at its terminator, or where the
+/// bytes end.
 fn text_end(end: u8, bytes: &[u8], place: usize) -> usize
     requires { place ≤ length bytes.now }
     ensures { IsTextAt end bytes.now place result }
@@ -72,8 +74,9 @@ fn text_end(end: u8, bytes: &[u8], place: usize) -> usize
     }
 }
 
-/// Where the text of the line ends that starts at a place, and whether the line has a hit. It stands at `at` in the
-/// block. Where the automaton alone is asked, what it remembers is, which looks for the line's end by the way.
+/// Where the text of the line ends that starts at a place, and whether the line has a hit. It has at most 2^30 bytes, as
+/// all behind it, and stands at `at` in the block. Where the automaton alone is asked, what it remembers is, which looks
+/// for the line's end by the way.
 fn judge_line<A: Allocator>(
     query: &Query<A>,
     strings: &BlockStrings<'_, A>,

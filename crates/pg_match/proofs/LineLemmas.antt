@@ -21,9 +21,9 @@ use Rattle.pg_match.proofs.StandsLemmas.{exact_so, stands_first, stands_next}
 -- bytes have one first line
 first_is_one : (end : ℕ) (bytes : List ℕ) (n r : ℕ) → IsFirstText end bytes n → IsFirstText end bytes r → n ≡ r
 first_is_one end bytes n r f g = elim (cases_lt n r) [
-  | inl less ↦ absurd (g.clear n less (f.ended (omega (arith, g.within))))
+  | inl less ↦ absurd (g.clear n (omega arith) less (f.ended (omega (arith, g.within))))
   | inr upto ↦ elim (cases_lt r n) [
-    | inl more ↦ absurd (f.clear r more (g.ended (omega (arith, f.within))))
+    | inl more ↦ absurd (f.clear r (omega arith) more (g.ended (omega (arith, f.within))))
     | inr same ↦ omega arith
   ]
 ]
@@ -33,7 +33,7 @@ pub line_whole : (P : List ℕ → Type 0) (end : ℕ) (bytes : List ℕ) (answe
     → IsTrue answer ↔ P (take r bytes) → TellsLine P end bytes (record { has_hit = answer; read = r })
 line_whole P end bytes answer r f so = record {
   within = f.within;
-  clear = f.clear;
+  clear = λ i lt same. f.clear i (omega arith) lt same;
   told = λ n g. subst (λ k. IsTrue answer ↔ P (take k bytes)) (first_is_one end bytes r n f g) so;
 }
 
@@ -45,8 +45,9 @@ line_empty P end bytes answer empty so = line_whole P end bytes answer 0 first s
   where
     first : IsFirstText end bytes 0
     first = record {
+      onward = omega arith;
       within = omega arith;
-      clear = λ i lt same. absurd (omega arith);
+      clear = λ i low lt same. absurd (omega arith);
       ended = λ some. elim empty [ inl none ↦ absurd (omega arith) | inr stops ↦ stops ];
     }
 
@@ -68,15 +69,18 @@ module _ (end : ℕ) (bytes : List ℕ) (p : ℕ) (lt : p < length bytes)
   pub first_found : (k : ℕ) → IsFirstByte (is_byte end) (drop (p + 1) bytes) (Some k)
       → IsFirstText end bytes (p + 1 + k)
   first_found k found = record {
+    onward = omega arith;
     within = omega (arith, found.0.high, length-drop (p + 1) bytes);
-    clear = clear_upto k found.0.before;
+    clear = λ i low lt same. clear_upto k found.0.before i lt same;
     ended = λ some. sym (get_or-drop (p + 1) bytes k 0) ∙ eqb-true _ end found.1;
   }
 
   pub first_none : IsFirstByte (is_byte end) (drop (p + 1) bytes) None → IsFirstText end bytes (length bytes)
   first_none none = record {
+    onward = omega arith;
     within = omega arith;
-    clear = λ i inside. clear_upto (length (drop (p + 1) bytes)) none i (omega (arith, length-drop (p + 1) bytes));
+    clear = λ i low inside same. clear_upto (length (drop (p + 1) bytes)) none i
+        (omega (arith, length-drop (p + 1) bytes, inside)) same;
     ended = λ past. absurd (omega arith);
   }
 
@@ -144,8 +148,9 @@ module _ (m : Nfa) (mem : Remembered) (end : ℕ) (bytes : List ℕ) (is_m : IsR
     line_finished answer last finishes =
         let next : p + 1 ≤ length bytes = omega (arith, s.within) in
         let first : IsFirstText end bytes (p + 1) = record {
+          onward = omega arith;
           within = next;
-          clear = λ i lt same. s.clear i (omega arith) same;
+          clear = λ i low lt same. s.clear i (omega arith) same;
           ended = λ more. elim last [ inl all ↦ absurd (omega arith) | inr stops ↦ stops ];
         } in
         line_whole (λ l. HasRun m l 0) end bytes answer (p + 1) first

@@ -4,13 +4,19 @@ use Rattle.pg_match.specs.Automata.{Nfa}
 use Rattle.pg_match.specs.Memories.{Remembered, IsAtRow, StandsAt}
 use Rattle.pg_match.specs.declared.dfa_line.KnownLine.{KnownLine}
 
--- the text of the first line is the first n bytes: those before the first byte that ends lines, or all (XBD 3.206)
-pub record IsFirstText (end : ℕ) (bytes : List ℕ) (n : ℕ) : Type 0 where
-  pub within : n ≤ length bytes
-  pub clear : (i : ℕ) → i < n → slice_index bytes i ≡ end → ⊥
-  pub ended : n < length bytes → slice_index bytes n ≡ end
+-- from a place inside a line on, its text goes up to another: there stands the byte that ends lines, and not before, or
+-- the bytes end (XBD 3.206)
+pub record IsTextAt (end : ℕ) (bytes : List ℕ) (place stop : ℕ) : Type 0 where
+  pub onward : place ≤ stop
+  pub within : stop ≤ length bytes
+  pub clear : (i : ℕ) → place ≤ i → i < stop → slice_index bytes i ≡ end → ⊥
+  pub ended : stop < length bytes → slice_index bytes stop ≡ end
 
--- whether the first line is as it is told of, of which so many bytes were read
+-- the text of the first line is the first n bytes
+abbrev pub IsFirstText : ℕ → List ℕ → ℕ → Type 0
+IsFirstText end bytes n = IsTextAt end bytes 0 n
+
+-- what is told of the first line is true: it goes on as far as it was read, and whether P holds of its text
 pub record TellsLine (P : List ℕ → Type 0) (end : ℕ) (bytes : List ℕ) (known : KnownLine) : Type 0 where
   pub within : known.read ≤ length bytes
   pub clear : (i : ℕ) → i < known.read → slice_index bytes i ≡ end → ⊥

@@ -1,12 +1,11 @@
 use Rattle.std.proofs.Common.{ℕ, ◌-◌, List, drop, take, subst}
 use Rattle.std.proofs.lemmas.List.{take_rest}
 use Rattle.std.specs.Bool.{one_answer}
-use Rattle.pg_match.specs.Lines.{TellsLine}
+use Rattle.pg_match.specs.Lines.{IsTextAt, TellsLine}
 use Rattle.pg_pattern.specs.Hits.{HasHit}
 use Rattle.pg_pattern.specs.Tests.{has_hit}
 use Rattle.pg_pattern.proofs.TestLemmas.{hits_decided}
 use Rattle.pg_selection.specs.Search.{bounds_of}
-use Rattle.pg_lines.specs.Finding.{IsTextAt}
 use Rattle.pg_lines.proofs.PartLemmas.{machine_of}
 use Rattle.pg_lines.proofs.ScanLemmas.{first_text, text_known}
 use Rattle.pg_lines.proofs.search.judge_line.Goals as goal
