@@ -20,8 +20,8 @@ pub(crate) fn hits_each_line<A: Allocator>(query: &Query<A>, literals: &[Literal
         .any(|literal| literal.is_enough && literal.text.is_empty())
 }
 
-/// All lines as one run, or none with -v, and their number, where each line has a hit and parts aren't asked for. The
-/// only error is a refused request for memory.
+/// All lines as one run, or none with -v, and their number, where each line has a hit and parts aren't asked for. A
+/// refused request for memory is the only error.
 pub(crate) fn runs_of_each_line<A: Allocator + Copy>(
     alloc: A,
     query: &Query<A>,

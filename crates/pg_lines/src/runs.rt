@@ -9,7 +9,7 @@ use pg_blocks::{Span, count_lines};
 use pg_selection::Run;
 use std::alloc::{AllocError, Allocator};
 
-/// Keeps a run, unless it is empty. The only error is a refused request for memory.
+/// Keeps a run, unless it is empty. A refused request for memory is the only error.
 pub(crate) fn push_run<A: Allocator>(runs: &mut Vec<Run, A>, run: Run) -> Result<(), AllocError>
     ensures { OnOk result (runs.new.items ≡ runs.old.items
         ++ (if nat_lt run.span.start run.span.end then run ∷ [] else [])) }
@@ -40,8 +40,8 @@ fn run_behind(end: u8, bytes: &[u8], run: Run, line: Span) -> Run
 }
 
 /// The open run with the next selected line, which starts at or behind its end. Where bytes stand between them the run
-/// is closed, and the line opens another. Up to the end of a run there are no more lines than bytes. The only error is a
-/// refused request for memory.
+/// is closed, and the line opens another. Up to the end of a run there are no more lines than bytes. A refused request
+/// for memory is the only error.
 pub(crate) fn with_line<A: Allocator>(
     runs: &mut Vec<Run, A>,
     run: Run,

@@ -61,8 +61,8 @@ fn has_hit<A: Allocator>(
     }
 }
 
-/// Where the text of a line ends that goes on up to a place, at most the count of bytes: at its terminator, or where the
-/// bytes end.
+/// Where the text of a line ends that goes on up to a place, at most the count of bytes: at its terminator, or where
+/// the bytes end.
 fn text_end(end: u8, bytes: &[u8], place: usize) -> usize
     requires { place ≤ length bytes.now }
     ensures { IsTextAt end bytes.now place result }
@@ -74,9 +74,9 @@ fn text_end(end: u8, bytes: &[u8], place: usize) -> usize
     }
 }
 
-/// Where the text of the line ends that starts at a place, and whether the line has a hit. It has at most 2^30 bytes, as
-/// all behind it, and stands at `at` in the block. Where the automaton alone is asked, what it remembers is, which looks
-/// for the line's end by the way.
+/// Where the text of the line ends that starts at a place, and whether the line has a hit. It has at most 2^30 bytes,
+/// as all behind it have, and stands at `at` in the block. Where the automaton alone is asked, what it remembers is,
+/// which looks for the line's end by the way.
 fn judge_line<A: Allocator>(
     query: &Query<A>,
     strings: &BlockStrings<'_, A>,

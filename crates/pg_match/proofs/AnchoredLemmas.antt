@@ -428,8 +428,7 @@ pub alone_grown : (m : Nfa) (old new : Remembered) (s : Members) (flag : Bool) �
     → (old.count < 2 → Starts m (eqb old.count 1) (Has s)) → IsAnchoredMemoryOf m new
 alone_grown m old new s flag is g so starts =
     let n = g.count in
-    moved m old new is g.shape g.keeps (λ r b le lt. inl (ap (λ v. slice_index v (256 * r + b)) g.steps))
-    (λ i le. ap (λ v. slice_index v i) g.steps)
+    moved m old new is g.shape g.keeps (λ r b le lt. inl (g.steps (256 * r + b))) (λ i le. g.steps i)
     (λ r later le.
     let last : r ≡ new.count = omega arith in
     let here = g.here 0 in
@@ -522,11 +521,11 @@ told_alone m old mid r b k v s u e ge le le_r keeps from goes to =
     inr (inr (k, e, ge, le, alone_same m.states b (Has s) (In mid r) (Has u) (In mid k) back to goes))
 
 -- a new table remembers nothing
-pub blank_alone : (m : Nfa) (t : Remembered) → IsBlank (length m.states) t → IsAnchoredMemoryOf m t
+pub blank_alone : (m : Nfa) (t : Remembered) → IsBlank t → IsAnchoredMemoryOf m t
 blank_alone m t b =
     let none = b.count in
     record {
-      shape = b.shape;
+      shape = b.shape (length m.states);
       told = λ r c le lt. inl (nothing_known _ (b.steps (256 * r + c)));
       blank = λ i le. b.steps i;
       accepts = λ r ge le. absurd (omega arith);
@@ -538,11 +537,10 @@ blank_alone m t b =
     no_some : (a : Bool) → None ≡ Some a → ⊥
     no_some a e = cc
 
-pub blank_anchored : {A : Type 0} (table : Option (Cache A)) (n : ℕ) (m : Nfa)
-    → IfSome table (λ t. IsBlank n (remembered t)) → n ≡ length m.states → RemembersAnchored table m
-blank_anchored (Some t) n m blank same =
-    blank_alone m (remembered t) (subst (λ k. IsBlank k (remembered t)) same blank)
-blank_anchored None n m blank same = tt
+pub blank_anchored : {A : Type 0} (table : Option (Cache A)) (m : Nfa)
+    → IfSome table (λ t. IsBlank (remembered t)) → RemembersAnchored table m
+blank_anchored (Some t) m blank = blank_alone m (remembered t) blank
+blank_anchored None m blank = tt
 
 -- whether state 0 is in a set, as its mark is read
 pub accepts_so : (s : Members) (v : ℕ) → v ≡ mark s 0 → (not (eqb v 0) ≡ true) ↔ Has s 0

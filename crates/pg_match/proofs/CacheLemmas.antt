@@ -1,10 +1,11 @@
 -- The table of the sets that are remembered.
 use Rattle.std.proofs.Common.{◌≡◌, ◌≢◌, ℕ, zero, suc, ◌+◌, ◌-◌, ◌*◌, ◌/◌, ◌^◌, ◌<◌, ◌≤◌, ◌⊎◌, ◌↔◌, inl, inr, List}
+use Rattle.std.proofs.Common.{[], ◌∷◌, ◌++◌, take}
 use Rattle.std.proofs.Common.{length, get_or, set, replicate, Bool, true, false, true≢false, Option, Some, None, refl}
 use Rattle.std.proofs.Common.{sym, ap, ◌∙◌, subst, arith, IsTrue, length-set, get_or-set_same, get_or-set_other}
-use Rattle.std.specs.Prelude.{IfSome, IfOk, slice_index, slice_get, Result, Ok, Err}
+use Rattle.std.specs.Prelude.{IfSome, IfOk, if◌then◌else◌, slice_index, slice_get, Result, Ok, Err}
 use Rattle.std.specs.Result.{result_ok}
-use Rattle.std.proofs.lemmas.List.{get_or_read}
+use Rattle.std.proofs.lemmas.List.{get_or_read, take_all}
 use Rattle.std.proofs.lemmas.Option.{slice_get-get_or}
 use Rattle.std.proofs.lemmas.Bool.{cases_eq, cases_lt}
 use Rattle.std.proofs.Math.Nat.{add-mul, mul-le-mul_left}
@@ -14,6 +15,7 @@ use Rattle.pg_match.specs.Steps.{Has, Goes, Starts, HitBefore, AnswersEnd, Reads
 use Rattle.pg_match.specs.Stands.{Stands, HasRun}
 use Rattle.pg_match.specs.Memories.{Remembered, cut, ended, fresh_at, In, Same, IsShape, Told, IsMemoryOf}
 use Rattle.pg_match.specs.Memories.{IsUnknown, IsHopeless, IsBlank, Keeps, Grown, SameSets, Marked, MarkedEnd}
+use Rattle.pg_match.specs.Memories.{HasRoom, Widened}
 use Rattle.pg_match.specs.Memories.{IsAtRow, StandsAt, Learned, Finishes, Settles}
 use Rattle.pg_match.specs.Views.{remembered, Remembers}
 use Rattle.pg_match.specs.declared.dfa_cache.Cache.{Cache}
@@ -55,32 +57,6 @@ pub record Copying (old new : Remembered) (s : Members) (start k : ℕ) : Type 0
   pub cuts : new.cuts ≡ old.cuts
   pub count : new.count ≡ old.count
 
--- one more state is copied
-pub copied_more : (old mid new : Remembered) (s : Members) (start k v : ℕ) → Copying old mid s start k
-    → start + k < length old.pool → v ≡ listed s k → new.pool ≡ set mid.pool (start + k) v → new.steps ≡ mid.steps
-    → new.ends ≡ mid.ends → new.fresh ≡ mid.fresh → new.cuts ≡ mid.cuts → new.count ≡ mid.count
-    → Copying old new s start (k + 1)
-copied_more old mid new s start k v c low is pool steps ends fresh cuts count =
-    let size = c.size in
-    let place = start + k in
-    record {
-      size = omega (arith, ap length pool, length-set {A = ℕ}, size);
-      before = λ j lt. ap (λ xs. slice_index xs j) pool
-          ∙ (get_or-set_other mid.pool place j v 0 (omega arith) ∙ c.before j lt);
-      copied = λ j lt. elim (cases_eq j k) [
-        | inl same ↦ ap (λ xs. slice_index xs (start + j)) pool
-            ∙ (ap (λ i. slice_index (set mid.pool place v) (start + i)) same
-            ∙ (get_or-set_same mid.pool place v 0 (omega arith) ∙ (is ∙ ap (λ i. listed s i) (sym same))))
-        | inr other ↦ ap (λ xs. slice_index xs (start + j)) pool
-            ∙ (get_or-set_other mid.pool place (start + j) v 0 (omega arith) ∙ c.copied j (omega arith))
-      ];
-      steps = steps ∙ c.steps;
-      ends = ends ∙ c.ends;
-      fresh = fresh ∙ c.fresh;
-      cuts = cuts ∙ c.cuts;
-      count = count ∙ c.count;
-    }
-
 -- what the table reads
 pub same_list : (mem : Remembered) (r start : ℕ) (s : Members) → IsGood s → start ≡ cut mem r
     → start + s.len ≡ cut mem (r + 1)
@@ -97,15 +73,17 @@ same_list mem r start s good from to eqs q = (
 
 pub grown : (n : ℕ) (old mid new : Remembered) (s : Members) (start : ℕ) (fresh : Bool) → IsShape n old → IsGood s
     → n ≡ length s.marks → start ≡ cut old (old.count + 1)
-    → old.count ≢ 256 → s.len ≤ length old.pool - start → Copying old mid s start s.len → new.steps ≡ mid.steps
+    → HasRoom old s.len → Copying old mid s start s.len → new.steps ≡ mid.steps
     → new.ends ≡ mid.ends → new.pool ≡ mid.pool
     → new.cuts ≡ set mid.cuts (mid.count + 2) (start + s.len) → new.count ≡ mid.count + 1
     → new.fresh ≡ set mid.fresh (mid.count + 1) fresh → Grown n old new s fresh
-grown n old mid new s start fresh shape good size from other fit copy steps ends pool cuts0 count fresh0 =
+grown n old mid new s start fresh shape good size from room copy steps ends pool cuts0 count fresh0 =
     let cuts : new.cuts ≡ set mid.cuts (old.count + 2) (start + s.len) = cuts0
     ∙ ap (λ v. set mid.cuts (v + 2) (start + s.len)) copy.count in
     let a : new.count ≡ old.count + 1 = count ∙ ap (λ v. v + 1) copy.count in
     let f = shape.few in
+    let other = room.few in
+    let fit : start + s.len ≤ length old.pool = omega (arith, room.pool, from) in
     let z1 = shape.cuts_size in
     let cut_old : (r : ℕ) → r ≤ old.count + 1 → cut new r ≡ cut old r =
     λ r le. ap (λ v. slice_index v r) cuts ∙ get_or-set_other mid.cuts (old.count + 2) r (start + s.len) 0 (omega arith)
@@ -145,7 +123,7 @@ grown n old mid new s start fresh shape good size from other fit copy steps ends
     same_list new new.count start s good (sym here_from) (sym top) (λ j lt. pool_eq (start + j) ∙ copy.copied j lt) in
     record {
       shape = record {
-        steps_size = ap length (steps ∙ copy.steps) ∙ shape.steps_size;
+        steps_size = let e = ap length (steps ∙ copy.steps) in omega (arith, a, e, room.steps);
         ends_size = ap length (ends ∙ copy.ends) ∙ shape.ends_size;
         pool_size = let e = ap length pool in let e2 = copy.size in let b = shape.pool_size in omega arith;
         fresh_size = ap length freshes ∙ length-set mid.fresh (old.count + 1) fresh ∙ freshlen;
@@ -181,11 +159,33 @@ grown n old mid new s start fresh shape good size from other fit copy steps ends
       fresh_here =
           ap (fresh_at new) a ∙ ap (λ v. get_or v (old.count + 1) false) freshes
           ∙ get_or-set_same mid.fresh (old.count + 1) fresh false (omega arith);
-      steps = steps ∙ copy.steps;
+      steps = λ i. ap (λ v. slice_index v i) (steps ∙ copy.steps);
       ends = ends ∙ copy.ends;
       count = a;
       here = here;
     }
+
+-- how long a list is that was made longer
+pub resized : (n k m : ℕ) (is_ok : Bool) → IsTrue is_ok → m ≡ (if is_ok then n else k) → m ≡ n
+resized n k m false ok e = absurd (true≢false (sym ok))
+resized n k m true ok e = e
+
+-- numbers are read as before where zeros were put behind them
+pub padded : (xs ys : List ℕ) (n k : ℕ) (is_ok : Bool) → IsTrue is_ok → length xs ≤ n
+    → ys ≡ (if is_ok then take n xs ++ replicate k 0 else xs) → (i : ℕ) → slice_index ys i ≡ slice_index xs i
+padded xs ys n k false ok le e i = absurd (true≢false (sym ok))
+padded xs ys n k true ok le e i =
+    ap (λ v. slice_index v i) (e ∙ ap (λ v. v ++ replicate k 0) (take_all n xs le)) ∙ behind xs k i
+  where
+    at : (k i : ℕ) → slice_index (replicate k 0) i ≡ 0
+    at zero i = refl
+    at (suc k) zero = refl
+    at (suc k) (suc i) = at k i
+
+    behind : (xs : List ℕ) (k i : ℕ) → slice_index (xs ++ replicate k 0) i ≡ slice_index xs i
+    behind [] k i = at k i
+    behind (x ∷ xs) k zero = refl
+    behind (x ∷ xs) k (suc i) = behind xs k i
 
 pub same_self : (S : ℕ → Type 0) → Same S S
 same_self S q = (λ h. h, λ h. h)
@@ -293,8 +293,8 @@ pub memory_grown : (m : Nfa) (old new : Remembered) (s : Members) (fresh : Bool)
     → (old.count ≡ 0 → Starts m true (Has s)) → IsMemoryOf m new
 memory_grown m old new s fresh is g first =
     let n = g.count in
-    moved m old new is g.shape g.keeps (λ r b le lt. inl (ap (λ v. slice_index v (256 * r + b)) g.steps))
-    (λ i le. ap (λ v. slice_index v i) g.steps) (λ r answer e. inl (sym (ap (λ v. get_or v r None) g.ends) ∙ e))
+    moved m old new is g.shape g.keeps (λ r b le lt. inl (g.steps (256 * r + b))) (λ i le. g.steps i)
+    (λ r answer e. inl (sym (ap (λ v. get_or v r None) g.ends) ∙ e))
     (λ none some.
     let one : new.count ≡ 1 = omega arith in
     starts_same m true (Has s) (In new 1) (subst (λ v. Same (Has s) (In new v)) one g.here) (first none))
@@ -332,7 +332,7 @@ sets_shape n old new s w steps ends =
     let t : cut new (new.count + 1) ≡ cut old (old.count + 1) = ap (λ v. cut new (v + 1)) count ∙ c (old.count + 1) in
     let pool = ap length w.pool in
     record {
-      steps_size = steps ∙ s.steps_size;
+      steps_size = let b = s.steps_size in omega arith;
       ends_size = ends ∙ s.ends_size;
       pool_size = let b = s.pool_size in omega arith;
       fresh_size = ap length w.fresh ∙ s.fresh_size;
@@ -356,6 +356,60 @@ keeps_on old mid new k n =
       fresh = λ r le. n.fresh r (omega arith) ∙ k.fresh r le;
       more = omega (arith, more, n.more);
     }
+
+module _ (old new : Remembered) (w : Widened old new) where
+  same_cut : (r : ℕ) → cut new r ≡ cut old r
+  same_cut r = ap (λ u. slice_index u r) w.cuts
+
+  widened_sets : (r : ℕ) → Same (In old r) (In new r)
+  widened_sets r q =
+      let a = same_cut r in
+      let b = same_cut (r + 1) in (
+        λ h. (h.0, omega (arith, h.1), omega (arith, h.2), w.pool h.0 ∙ h.3),
+        λ h. (h.0, omega (arith, h.1), omega (arith, h.2), sym (w.pool h.0) ∙ h.3),
+      )
+
+  pub widened_keeps : Keeps old new
+  widened_keeps =
+      let n = w.count in
+      record {
+        sets = λ r le. widened_sets r;
+        fresh = λ r le. ap (λ u. get_or u r false) w.fresh;
+        more = omega arith;
+      }
+
+  pub widened_shape : (n : ℕ) → IsShape n old → IsShape n new
+  widened_shape n s =
+      let n_rows = w.count in
+      let top : cut new (new.count + 1) ≡ cut old (old.count + 1) =
+      ap (λ v. cut new (v + 1)) n_rows ∙ same_cut (old.count + 1) in
+      record {
+        steps_size = let b = s.steps_size in let m = w.more_steps in omega arith;
+        ends_size = ap length w.ends ∙ s.ends_size;
+        pool_size = w.few;
+        fresh_size = ap length w.fresh ∙ s.fresh_size;
+        cuts_size = ap length w.cuts ∙ s.cuts_size;
+        none = same_cut 0 ∙ s.none ∙ sym (same_cut 1);
+        few = let f = s.few in omega arith;
+        upto = λ r le. let a = same_cut r in let u = s.upto r (omega arith) in omega arith;
+        order = λ r le. let a = same_cut r in let b = same_cut (r + 1) in let u = s.order r (omega arith) in
+            omega arith;
+        room = let f = s.room in let m = w.more_states in omega arith;
+        within = λ r q le h. s.within r q (omega arith) ((widened_sets r q).1 h);
+      }
+
+-- a row in more memory
+pub grown_widened : (n : ℕ) (old wide new : Remembered) (s : Members) (fresh : Bool) → Widened old wide
+    → Grown n wide new s fresh → Grown n old new s fresh
+grown_widened n old wide new s fresh w g = record {
+  shape = g.shape;
+  keeps = keeps_on old wide new (widened_keeps old wide w) g.keeps;
+  steps = λ i. g.steps i ∙ w.steps i;
+  ends = g.ends ∙ w.ends;
+  count = g.count ∙ ap (λ v. v + 1) w.count;
+  here = g.here;
+  fresh_here = g.fresh_here;
+}
 
 -- where a byte leads was written
 pub memory_marked : (m : Nfa) (old new : Remembered) (r b v : ℕ) → IsMemoryOf m old → Marked old new (256 * r + b) v
@@ -570,7 +624,7 @@ product_fits p n size same short few =
     let less : size ≤ 2 ^ 64 = omega arith in omega (arith, mul-le-mul_left p less)
 
 pub told_on : (u v w a b d : ℕ) → v + a ≡ u + b → w + b ≡ v + d → w + a ≡ u + d
-told_on u v w a b d first then = omega arith
+told_on u v w a b d first next = omega arith
 
 pub zeros : (xs : List ℕ) (n : ℕ) → xs ≡ replicate n 0 → (i : ℕ) → slice_index xs i ≡ 0
 zeros xs n e i = ap (λ v. slice_index v i) e ∙ at n i
@@ -591,19 +645,19 @@ nones xs n e i = ap (λ v. get_or v i None) e ∙ at n i
     at (suc n) zero = refl
     at (suc n) (suc i) = at n i
 
-pub blank_table : (n : ℕ) (mem : Remembered) → length mem.steps ≡ 65792 → length mem.ends ≡ 257
+pub blank_table : (mem : Remembered) → 256 ≤ length mem.steps → length mem.ends ≡ 257
     → length mem.pool ≤ 1048576
     → length mem.cuts ≡ 258 → length mem.fresh ≡ 257 → mem.count ≡ 0 → ((i : ℕ) → slice_index mem.steps i ≡ 0)
-    → ((r : ℕ) → ended mem r ≡ None) → cut mem 0 ≡ cut mem 1 → cut mem 1 ≤ length mem.pool → IsBlank n mem
-blank_table n mem a b c d f none s l same fits =
+    → ((r : ℕ) → ended mem r ≡ None) → cut mem 0 ≡ cut mem 1 → cut mem 1 ≤ length mem.pool → IsBlank mem
+blank_table mem a b c d f none s l same fits =
     let flat : (r : ℕ) → r ≤ 1 → cut mem r ≡ cut mem 1 = λ r le. elim (cases_eq r 1) [
       | inl one ↦ ap (cut mem) one
       | inr other ↦ let z : r ≡ 0 = omega arith in ap (cut mem) z ∙ same
     ] in
     let last : cut mem (mem.count + 1) ≡ cut mem 1 = ap (λ v. cut mem (v + 1)) none in
     record {
-      shape = record {
-        steps_size = a;
+      shape = λ n. record {
+        steps_size = omega (arith, none, a);
         ends_size = b;
         pool_size = c;
         fresh_size = f;
@@ -624,24 +678,24 @@ blank_table n mem a b c d f none s l same fits =
 -- the steps and the answers of a table were cleared, and its sets taken out
 pub blank_again : (n i j : ℕ) (old new : Remembered) → IsShape n old → new.steps ≡ replicate i 0
     → new.ends ≡ replicate j none
-    → length new.steps ≡ 65792 → length new.ends ≡ 257 → new.fresh ≡ old.fresh → new.pool ≡ old.pool
+    → 256 ≤ length new.steps → length new.ends ≡ 257 → new.fresh ≡ old.fresh → new.pool ≡ old.pool
     → new.cuts ≡ old.cuts
-    → new.count ≡ 0 → IsBlank n new
+    → new.count ≡ 0 → IsBlank new
 blank_again n i j old new s steps ends a b fresh pool cuts count =
     let upto = s.upto 1 (omega arith) in
     let room = s.room in
     let size = ap length pool in
     let zeroth : cut new 0 ≡ cut old 0 = ap (λ v. slice_index v 0) cuts in
     let first : cut new 1 ≡ cut old 1 = ap (λ v. slice_index v 1) cuts in
-    blank_table n new a b (omega (arith, s.pool_size)) (ap length cuts ∙ s.cuts_size)
+    blank_table new a b (omega (arith, s.pool_size)) (ap length cuts ∙ s.cuts_size)
     (ap length fresh ∙ s.fresh_size) count
     (zeros new.steps i steps) (nones new.ends j ends) (zeroth ∙ s.none ∙ sym first) (omega arith)
 
-pub blank_memory : (m : Nfa) (mem : Remembered) → IsBlank (length m.states) mem → IsMemoryOf m mem
+pub blank_memory : (m : Nfa) (mem : Remembered) → IsBlank mem → IsMemoryOf m mem
 blank_memory m mem b =
     let none = b.count in
     record {
-      shape = b.shape;
+      shape = b.shape (length m.states);
       told = λ r c le lt. inl (nothing_known _ (b.steps (256 * r + c)));
       blank = λ i le. b.steps i;
       told_end = λ r answer e. absurd (no_some answer (sym (b.ends r) ∙ e));
@@ -766,7 +820,7 @@ finishes_if m mem b S k (Some answer) is mem_of missed goes e =
     finishes_end m b S (In mem k) answer is missed goes.0 (mem_of.told_end k answer (sym e)).1
 
 -- what a new table remembers, or none
-pub new_remembers : {A E : Type 0} (r : Result (Cache A) E) (n : ℕ) (m : Nfa)
-    → IfOk r (λ t. IsBlank n (remembered t)) → n ≡ length m.states → Remembers (result_ok r) m
-new_remembers (Ok t) n m blank same = blank_memory m (remembered t) (subst (λ k. IsBlank k (remembered t)) same blank)
-new_remembers (Err e) n m blank same = tt
+pub new_remembers : {A E : Type 0} (r : Result (Cache A) E) (m : Nfa)
+    → IfOk r (λ t. IsBlank (remembered t)) → Remembers (result_ok r) m
+new_remembers (Ok t) m blank = blank_memory m (remembered t) blank
+new_remembers (Err e) m blank = tt

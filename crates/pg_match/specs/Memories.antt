@@ -43,9 +43,9 @@ In t r q = (j : ℕ) × (cut t r ≤ j) × (j < cut t (r + 1)) × (slice_index t
 abbrev pub Same : (ℕ → Type 0) → (ℕ → Type 0) → Type 0
 Same S U = (q : ℕ) → (S q → U q) × (U q → S q)
 
--- the room for 256 sets of states below n
+-- at most 256 sets of states below n, with the steps of each
 pub record IsShape (n : ℕ) (t : Remembered) : Type 0 where
-  pub steps_size : length t.steps ≡ 65792
+  pub steps_size : 256 * (t.count + 1) ≤ length t.steps
   pub ends_size : length t.ends ≡ 257
   pub pool_size : length t.pool ≤ 1048576
   pub fresh_size : length t.fresh ≡ 257
@@ -83,9 +83,9 @@ pub record IsMemoryOf (m : Nfa) (t : Remembered) : Type 0 where
       → (r ≤ t.count) × AnswersEnd m false (In t r) answer
   pub first : 1 ≤ t.count → Starts m true (In t 1)
 
--- room for sets, and none of them
-pub record IsBlank (n : ℕ) (t : Remembered) : Type 0 where
-  pub shape : IsShape n t
+-- a table without a set, for any automaton
+pub record IsBlank (t : Remembered) : Type 0 where
+  pub shape : (n : ℕ) → IsShape n t
   pub steps : (i : ℕ) → slice_index t.steps i ≡ 0
   pub ends : (r : ℕ) → ended t r ≡ None
   pub count : t.count ≡ 0
@@ -96,11 +96,29 @@ pub record Keeps (old new : Remembered) : Type 0 where
   pub fresh : (r : ℕ) → r ≤ old.count → fresh_at new r ≡ fresh_at old r
   pub more : old.count ≤ new.count
 
+-- memory for another row, of so many states
+pub record HasRoom (t : Remembered) (states : ℕ) : Type 0 where
+  pub few : t.count < 256
+  pub steps : 256 * (t.count + 2) ≤ length t.steps
+  pub pool : cut t (t.count + 1) + states ≤ length t.pool
+
+-- the same table, with more memory behind its rows or not
+pub record Widened (old new : Remembered) : Type 0 where
+  pub steps : (i : ℕ) → slice_index new.steps i ≡ slice_index old.steps i
+  pub pool : (i : ℕ) → slice_index new.pool i ≡ slice_index old.pool i
+  pub more_steps : length old.steps ≤ length new.steps
+  pub more_states : length old.pool ≤ length new.pool
+  pub few : length new.pool ≤ 1048576
+  pub ends : new.ends ≡ old.ends
+  pub fresh : new.fresh ≡ old.fresh
+  pub cuts : new.cuts ≡ old.cuts
+  pub count : new.count ≡ old.count
+
 -- the set was added as a row
 pub record Grown (n : ℕ) (old new : Remembered) (s : Members) (fresh : Bool) : Type 0 where
   pub shape : IsShape n new
   pub keeps : Keeps old new
-  pub steps : new.steps ≡ old.steps
+  pub steps : (i : ℕ) → slice_index new.steps i ≡ slice_index old.steps i
   pub ends : new.ends ≡ old.ends
   pub count : new.count ≡ old.count + 1
   pub here : Same (Has s) (In new new.count)

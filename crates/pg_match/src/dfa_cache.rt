@@ -4,6 +4,7 @@ ghost use Rattle.pg_match.specs.Automata.{Nfa};
 ghost use Rattle.pg_match.specs.StateSets.{IsGood};
 ghost use Rattle.pg_match.specs.Steps.{Has};
 ghost use Rattle.pg_match.specs.Memories.{IsShape, IsMemoryOf, In, fresh_at, Same, Grown, Marked, MarkedEnd, IsBlank};
+ghost use Rattle.pg_match.specs.Memories.{HasRoom, Widened};
 ghost use Rattle.pg_match.specs.Views.{members, remembered};
 
 use crate::sparse_set::StateSet;
@@ -32,7 +33,8 @@ pub(crate) const DEAD: u32 = 2;
 pub(crate) const LOST: u32 = 3;
 
 /// Sets of states, and where each byte leads from them. A text may lead to more sets than there is room for. Then the
-/// table is begun anew, so that it has those that are met now.
+/// table is begun anew, so that it has those that are met now. Memory is asked for as sets come; where it is refused
+/// there is no room for the next one.
 pub struct Cache<A: Allocator = Global> {
     /// For 256 times a row, plus a byte: 0 where nothing is known yet, `HIT`, `DEAD`, `LOST`, or 256 times the next
     /// row.
@@ -50,6 +52,8 @@ pub struct Cache<A: Allocator = Global> {
     pub count: usize,
     /// How many sets there may be, since another table may have the room of some.
     most: usize,
+    /// Whether another table has half of the state numbers.
+    is_half: bool,
     /// How many bytes were searched without the table, since it was begun.
     lost: usize,
 }
@@ -64,34 +68,41 @@ impl<A: Allocator> Drop for Cache<A> {
             cuts: _,
             count: _,
             most: _,
+            is_half: _,
             lost: _,
         } = self;
     }
 }
 
 impl<A: Allocator> Cache<A> {
-    /// A table without a set, for automata with so many states. It may have half of the room, beside another one.
-    pub fn new(alloc: A, states: usize, is_half: bool) -> Result<Cache<A>, AllocError>
+    /// A table without a set, for any automaton. It may have half of the state numbers, beside another one.
+    pub fn new(alloc: A, is_half: bool) -> Result<Cache<A>, AllocError>
     where
         A: Copy,
-        ensures { IfOk result (λ memory. IsBlank states (remembered memory)) }
+        ensures { IfOk result (λ memory. IsBlank (remembered memory)) }
     {
-        let steps = vec![in alloc; 0u32; 256 * ROWS]?;
+        let steps = vec![in alloc; 0u32; 256]?;
         let ends = vec![in alloc; None; ROWS]?;
         let fresh = vec![in alloc; false; ROWS]?;
-        let room = if is_half { POOL / 2 } else { POOL };
-        let pool = vec![in alloc; 0u32; states.saturating_mul(SETS).min(room)]?;
         let cuts = vec![in alloc; 0u32; ROWS + 1]?;
         Ok(Cache {
             steps,
             ends,
             fresh,
-            pool,
+            pool: Vec::new(alloc),
             cuts,
             count: 0,
             most: SETS,
+            is_half,
             lost: 0,
         })
+    }
+
+    /// The most state numbers of its sets together.
+    fn most_states(&self) -> usize
+        ensures { result ≤ 1048576 }
+    {
+        if self.is_half { POOL / 2 } else { POOL }
     }
 
     /// Leaves the room of so many sets to another table.
@@ -103,7 +114,7 @@ impl<A: Allocator> Cache<A> {
 
     /// Takes all sets out.
     fn forget(&mut self)
-        ensures { (states : ℕ) → IsShape states (remembered self.old) → IsBlank states (remembered self.new) }
+        ensures { (states : ℕ) → IsShape states (remembered self.old) → IsBlank (remembered self.new) }
     {
         self.steps.fill(0);
         self.ends.fill(None);
@@ -181,35 +192,64 @@ impl<A: Allocator> Cache<A> {
         0
     }
 
-    /// Adds a row with the states of a set, fresh or not, if there is room.
-    pub fn add(&mut self, set: &StateSet<A>, is_fresh: bool) -> bool
+    /// Sees to memory for a row with the states of a set, if there is room for them. Else the table stays as it is.
+    fn make_room(&mut self, set: &StateSet<A>) -> bool
+        requires shape { IsShape (length set.now.marks.items) (remembered self.old) }
+        ensures widened { IsTrue result → Widened (remembered self.old) (remembered self.new) }
+        ensures room { IsTrue result → HasRoom (remembered self.new) set.now.len }
+        ensures full { result ≡ false → remembered self.new ≡ remembered self.old }
+    {
+        let start = self.cuts[self.count + 1] as usize;
+        if self.count == SETS || self.most_states().saturating_sub(start) < set.len {
+            return false;
+        }
+        let steps = self.steps.len().max(256 * (self.count + 2));
+        let states = self.pool.len().max(start + set.len);
+        if self.pool.reserve(states - self.pool.len()).is_err() {
+            return false;
+        }
+        if self.steps.resize(steps, 0).is_err() {
+            return false;
+        }
+        self.pool.resize(states, 0).is_ok()
+    }
+
+    /// Writes the next row, with the states of a set, fresh or not.
+    fn write(&mut self, set: &StateSet<A>, is_fresh: bool)
         requires shape { IsShape (length set.now.marks.items) (remembered self.old) }
         requires good { IsGood (members set.now) }
-        ensures grown { IsTrue result
-            → Grown (length set.now.marks.items) (remembered self.old) (remembered self.new) (members set.now)
+        requires room { HasRoom (remembered self.old) set.now.len }
+        ensures { Grown (length set.now.marks.items) (remembered self.old) (remembered self.new) (members set.now)
             is_fresh }
-        ensures full { result ≡ false → self.new ≡ self.old }
     {
-        if self.count >= self.most {
-            return false;
-        }
         let start = self.cuts[self.count + 1] as usize;
-        if self.count == SETS || self.pool.len() - start < set.len {
-            return false;
-        }
         for k in 0..set.len {
             self.pool[start + k] = set.order[k];
         }
         self.cuts[self.count + 2] = (start + set.len) as u32;
         self.fresh[self.count + 1] = is_fresh;
         self.count += 1;
+    }
+
+    /// Adds a row with the states of a set, fresh or not, if there is room, and memory for it.
+    pub fn add(&mut self, set: &StateSet<A>, is_fresh: bool) -> bool
+        requires shape { IsShape (length set.now.marks.items) (remembered self.old) }
+        requires good { IsGood (members set.now) }
+        ensures grown { IsTrue result
+            → Grown (length set.now.marks.items) (remembered self.old) (remembered self.new) (members set.now)
+            is_fresh }
+        ensures full { result ≡ false → remembered self.new ≡ remembered self.old }
+    {
+        if self.count >= self.most || !self.make_room(set) {
+            return false;
+        }
+        self.write(set, is_fresh);
         true
     }
 
     /// Writes where a byte leads from a row.
     pub fn mark(&mut self, row: usize, byte: u8, to: u32)
-        requires size { length self.old.steps.items ≡ 65792 }
-        requires row { row ≤ 256 }
+        requires { 256 * row + byte < length self.old.steps.items }
         ensures { Marked (remembered self.old) (remembered self.new) (256 * row + byte) to }
     {
         self.steps[256 * row + byte as usize] = to;

@@ -1,4 +1,4 @@
-use Rattle.std.proofs.Common.{◌≡◌, ◌+◌, ◌<◌, ◌≤◌, ◌^◌, ℕ, ap, subst, sym, arith, true, true≢false}
+use Rattle.std.proofs.Common.{◌≡◌, ◌+◌, ◌<◌, ◌≤◌, ◌^◌, ℕ, subst, sym, arith, true, true≢false}
 use Rattle.pg_match.proofs.StateSetLemmas.{few}
 use Rattle.pg_match.specs.Memories.{Grown, IsShape}
 use Rattle.pg_match.specs.Views.{nfa, members, remembered}
@@ -30,7 +30,7 @@ returns-clause-memory g c =
     memory_added (nfa c.args.self.now) old new s true c.add.result
     (c.refresh.ensures (nfa c.args.self.now) c.requires.memory)
     (λ t. subst (λ n. Grown n old new s true) c.begin.ensures.room.now_size (c.add.ensures.grown t))
-    (λ f. ap remembered (c.add.ensures.full f))
+    c.add.ensures.full
     (λ z. c.begin.ensures.starts)
 
 pub returns-then-memory-gt0-clause-visits : goal.returns-then-memory-gt0-clause-visits

@@ -1,4 +1,4 @@
-use Rattle.std.proofs.Common.{◌≡◌, ◌+◌, ◌<◌, ◌≤◌, ℕ, ap, subst, sym, arith, length, not, eqb}
+use Rattle.std.proofs.Common.{◌≡◌, ◌+◌, ◌<◌, ◌≤◌, ℕ, subst, sym, arith, length, not, eqb}
 use Rattle.std.proofs.lemmas.List.{get_or_read}
 use Rattle.pg_match.proofs.StateSetLemmas.{few}
 use Rattle.pg_match.specs.Memories.{Grown, IsShape}
@@ -28,7 +28,7 @@ returns-clause-memory g c =
     let inside : 0 < length s.marks = omega arith in
     alone_added (nfa c.args.self.now) old new s flag c.add.result c.requires.memory
     (λ t. subst (λ n. Grown n old new s flag) size (c.add.ensures.grown t))
-    (λ f. ap remembered (c.add.ensures.full f))
+    c.add.ensures.full
     (accepts_so s mark_0 (get_or_read s.marks 0 mark_0 inside c.index.ensures 0)) (λ less. begun.ensures.starts)
 
 pub returns-clause-visits : goal.returns-clause-visits

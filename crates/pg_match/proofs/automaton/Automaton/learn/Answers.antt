@@ -100,9 +100,6 @@ load-requires-clause-known g c = omega arith
 pub hits_before-requires-clause-size : goal.hits_before-requires-clause-size
 hits_before-requires-clause-size g c = omega arith
 
-pub mark-requires-clause-size : goal.mark-requires-clause-size
-mark-requires-clause-size g c = omega arith
-
 pub returns-then-hits_before-clause-some : goal.returns-then-hits_before-clause-some
 returns-then-hits_before-clause-some g c = omega arith
 
@@ -132,12 +129,6 @@ returns-then-to-eq0-clause-some g c = omega arith
 pub returns-then-to-eq0-clause-visits : goal.returns-then-to-eq0-clause-visits
 returns-then-to-eq0-clause-visits g c = omega arith
 
-pub mark-requires-2-clause-size : goal.mark-requires-2-clause-size
-mark-requires-2-clause-size g c = omega arith
-
-pub mark-requires-2-clause-row : goal.mark-requires-2-clause-row
-mark-requires-2-clause-row g c = omega arith
-
 pub returns-clause-some : goal.returns-clause-some
 returns-clause-some g c = omega arith
 
@@ -165,14 +156,11 @@ go-is_fresh-requires-clause-room g c =
       next_size = c.requires.room.next_size;
     }
 
-pub mark-requires-clause-row : goal.mark-requires-clause-row
-mark-requires-clause-row g c = omega arith
-
 pub returns-then-index-eq-HIT-clause-learned : goal.returns-then-index-eq-HIT-clause-learned
 returns-then-index-eq-HIT-clause-learned g c =
     let mem = remembered c.args.memory.now in
-    let steps : length mem.steps ≡ 65792 = c.requires.memory.shape.steps_size in
-    let few : mem.count ≤ 256 = c.requires.memory.shape.few in
+    let steps : 256 * (mem.count + 1) ≤ length mem.steps = c.requires.memory.shape.steps_size in
+    let known = c.requires.known in
     let read = get_or_read mem.steps (256 * c.args.row + c.args.byte) c.index.result.now (omega arith)
     c.index.ensures 0 in
     elim (c.requires.memory.told c.args.row c.args.byte c.requires.known (omega arith)) [

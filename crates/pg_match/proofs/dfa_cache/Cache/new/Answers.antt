@@ -1,4 +1,4 @@
-use Rattle.std.proofs.Common.{◌≡◌, Bool, Option, None, Some, ◌∙◌, arith, refl, sym, rules}
+use Rattle.std.proofs.Common.{◌≡◌, Bool, Option, None, Some, ◌∙◌, ap, arith, length, refl, sym, rules}
 use Rattle.pg_match.proofs.CacheLemmas.{blank_table, zeros, nones}
 use Rattle.pg_match.proofs.dfa_cache.Cache.new.Goals as goal
 
@@ -13,18 +13,13 @@ returns g c =
     let u = c.in_ok-cuts.ensures.items_if_clones_equal (λ y h. search rules) in
     let s_ok = c.in_ok-steps.steps.ok.0 in
     let l_ok = c.in_ok-ends.ends.ok.0 in
-    let p_ok = c.in_ok-pool.pool.ok.0 in
     let f_ok = c.in_ok-fresh.fresh.ok.0 in
     let u_ok = c.in_ok-cuts.cuts.ok.0 in
     let zero = zeros _ 258 u in
-    blank_table c.args.states _ (omega (arith, c.in_ok-steps.ensures.len)) (omega (arith, c.in_ok-ends.ensures.len))
-    (omega (arith, c.in_ok-pool.ensures.len))
-    (omega (arith, c.in_ok-cuts.ensures.len)) (omega (arith, c.in_ok-fresh.ensures.len)) refl (zeros _ 65792 s)
-    (nones _ 257 l)
-    (zero 0 ∙ sym (zero 1)) (omega (arith, zero 1))
-
-pub overflow_mul-vec : goal.overflow_mul-vec
-overflow_mul-vec g c = omega arith
+    let none : length c.new.result.items ≡ 0 = ap length c.new.ensures.items in
+    blank_table _ (omega (arith, c.in_ok-steps.ensures.len)) (omega (arith, c.in_ok-ends.ensures.len))
+    (omega (arith, none)) (omega (arith, c.in_ok-cuts.ensures.len)) (omega (arith, c.in_ok-fresh.ensures.len)) refl
+    (zeros _ 256 s) (nones _ 257 l) (zero 0 ∙ sym (zero 1)) (omega (arith, zero 1))
 
 pub overflow_add-vec : goal.overflow_add-vec
 overflow_add-vec g c = omega arith

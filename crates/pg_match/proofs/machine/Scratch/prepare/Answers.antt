@@ -13,11 +13,9 @@ invariant_of-result g c =
     let same : length states.items ≡ length m.states =
     ap (λ a. length (nfa a).states) (c.deref-states.ensures ∙ sym c.in_ok-automaton.ensures) in
     let room = c.in_ok-sets.ensures.room in
-    let size = c.len-2.ensures ∙ states.ok.0 ∙ same in
-    let size_too = c.len-3.ensures ∙ states.ok.0 ∙ same in
-    let memory = new_remembers c.new-2.result c.len-2.result m c.new-2.ensures size in (
+    let memory = new_remembers c.new-2.result m c.new-2.ensures in (
       subst (HaveRoom (buffers c.in_ok-sets.sets)) (c.len.ensures ∙ states.ok.0 ∙ same) room,
       rw c.ok-memory.ensures.value memory,
-      blank_anchored c.table-anchored.result c.len-3.result m c.table-anchored.ensures size_too,
+      blank_anchored c.table-anchored.result m c.table-anchored.ensures,
       tt,
     )
