@@ -3,13 +3,11 @@ use pg_bytes::ByteSet;
 
 /// A set with `a`, 0, 63, 64, and 250 to 255.
 fn some_set() -> ByteSet {
-    let mut set = ByteSet::empty();
-    set.insert(b'a');
-    set.insert(0);
-    set.insert_range(250, 255);
-    set.insert_range(63, 64);
-    set.insert_range(9, 8);
-    set
+    ByteSet::one(b'a')
+        .union(ByteSet::one(0))
+        .union(ByteSet::between(250, 255))
+        .union(ByteSet::between(63, 64))
+        .union(ByteSet::between(9, 8))
 }
 
 /// Whether a set has these bytes and no others.
@@ -30,7 +28,7 @@ fn sets_have_their_bytes(rt: HostRuntime) {
         has_only(&set, &[0, 63, 64, 97, 250, 251, 252, 253, 254, 255])
             && has_only(&closed, &[0, 63, 64, 65, 97, 250, 251, 252, 253, 254, 255])
             && set != closed
-            && set.union(set.complement()) == ByteSet::empty().complement()
+            && set.union(set.complement()) == ByteSet::all()
             && set.complement().complement() == set
     );
 }

@@ -1,6 +1,6 @@
 //! Sets of bytes.
 ghost use Rattle.std.specs.Prelude.{◌≡◌, ◌-◌, ◌^◌, ◌≤◌, min};
-ghost use Rattle.pg_bytes.specs.Sets.{empty, with, between, below, union, complement, closed};
+ghost use Rattle.pg_bytes.specs.Sets.{all, empty, one, with, between, below, union, complement, closed};
 
 /// In the word of the bytes 64 to 127, the bits of the upper case letters. Those of the lower case
 /// letters stand 32 bits higher.
@@ -24,6 +24,22 @@ impl ByteSet {
         ByteSet { words: [0; 4] }
     }
 
+    /// All bytes.
+    pub fn all() -> ByteSet
+        ensures { bytes result ≡ all }
+    {
+        ByteSet::empty().complement()
+    }
+
+    /// The set of one byte.
+    pub fn one(byte: u8) -> ByteSet
+        ensures { bytes result ≡ one byte }
+    {
+        let mut set = ByteSet::empty();
+        set.insert(byte);
+        set
+    }
+
     /// Whether a byte is in the set.
     pub fn contains(&self, byte: u8) -> bool
         ensures { result ≡ bytes self.now byte }
@@ -32,21 +48,14 @@ impl ByteSet {
     }
 
     /// Adds a byte.
-    pub fn insert(&mut self, byte: u8)
+    fn insert(&mut self, byte: u8)
         ensures { bytes self.new ≡ with byte (bytes self.old) }
     {
         self.words[usize::from(byte / 64)] |= 1 << (byte % 64);
     }
 
-    /// Adds the bytes from `first` to `last`, both included: none where `first` is above `last`.
-    pub fn insert_range(&mut self, first: u8, last: u8)
-        ensures { bytes self.new ≡ union (bytes self.old) (between first last) }
-    {
-        *self = self.union(ByteSet::between(first, last));
-    }
-
-    /// The bytes from `first` to `last`, both included.
-    pub(crate) fn between(first: u8, last: u8) -> ByteSet
+    /// The bytes from `first` to `last`, both included: none where `first` is above `last`.
+    pub fn between(first: u8, last: u8) -> ByteSet
         ensures { bytes result ≡ between first last }
     {
         let beyond = ByteSet::below(u16::from(last) + 1).complement();

@@ -7,15 +7,6 @@ ghost use Rattle.pg_bytes.specs.ByteSets.{bytes};
 
 use crate::byte_set::ByteSet;
 
-/// The set of one byte.
-fn one(byte: u8) -> ByteSet
-    ensures { bytes result ≡ one byte }
-{
-    let mut set = ByteSet::empty();
-    set.insert(byte);
-    set
-}
-
 /// The letters.
 fn alpha() -> ByteSet
     ensures { bytes result ≡ alpha }
@@ -50,21 +41,21 @@ fn punct() -> ByteSet
 fn blank() -> ByteSet
     ensures { bytes result ≡ blank }
 {
-    one(b'\t').union(one(b' '))
+    ByteSet::one(b'\t').union(ByteSet::one(b' '))
 }
 
 /// Space, and the bytes from tab to carriage return.
 fn space() -> ByteSet
     ensures { bytes result ≡ space }
 {
-    ByteSet::between(9, 13).union(one(b' '))
+    ByteSet::between(9, 13).union(ByteSet::one(b' '))
 }
 
 /// The control characters.
 fn cntrl() -> ByteSet
     ensures { bytes result ≡ cntrl }
 {
-    ByteSet::between(0, 31).union(one(127))
+    ByteSet::between(0, 31).union(ByteSet::one(127))
 }
 
 /// The class of a name where it isn't one of letters and digits alone: `blank`, `space`, `cntrl`, `graph`, `print` or

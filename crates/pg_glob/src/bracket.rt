@@ -4,7 +4,6 @@ ghost use Rattle.pg_glob.specs.Brackets.{bracket, class_at, class_named, is_encl
 ghost use Rattle.pg_glob.specs.Brackets.{range_at, range_end, single};
 ghost use Rattle.pg_glob.specs.Views.{set_of, byte_of};
 
-use crate::sets::{between, one};
 use pg_bytes::{ByteSet, class};
 
 /// A byte that may begin or end a range, and how many bytes write it.
@@ -135,11 +134,11 @@ fn range_at(text: &[u8]) -> Option<WrittenSet>
     let low = single(text)?;
     match range_end(&text[low.length..]) {
         Some(high) => Some(WrittenSet {
-            set: between(low.byte, high.byte),
+            set: ByteSet::between(low.byte, high.byte),
             length: low.length + 1 + high.length,
         }),
         None => Some(WrittenSet {
-            set: one(low.byte),
+            set: ByteSet::one(low.byte),
             length: low.length,
         }),
     }
@@ -153,7 +152,7 @@ fn member(text: &[u8]) -> Option<WrittenSet>
 {
     if is_enclosed(b'=', text) {
         return Some(WrittenSet {
-            set: one(byte_at(text, 2)),
+            set: ByteSet::one(byte_at(text, 2)),
             length: 5,
         });
     }

@@ -10,7 +10,6 @@ mod glob_file;
 mod laws;
 mod matching;
 mod reading;
-mod sets;
 
 pub use filter::Filter;
 pub use glob::Glob;

@@ -6,7 +6,6 @@ ghost use Rattle.pg_glob.specs.Views.{piece_of, written_of};
 
 use crate::bracket::bracket;
 use crate::glob::Part;
-use crate::sets::{all, one};
 use pg_bytes::ByteSet;
 use std::alloc::{AllocError, Allocator};
 
@@ -24,7 +23,7 @@ fn quoted(rest: &[u8]) -> WrittenPart
 {
     match rest.split_first() {
         Some((byte, _)) => WrittenPart {
-            part: Part::OneOf(one(*byte)),
+            part: Part::OneOf(ByteSet::one(*byte)),
             behind: 1,
         },
         None => WrittenPart {
@@ -45,7 +44,7 @@ fn bracket_or_byte(rest: &[u8]) -> WrittenPart
             behind: inside.length,
         },
         None => WrittenPart {
-            part: Part::OneOf(one(b'[')),
+            part: Part::OneOf(ByteSet::one(b'[')),
             behind: 0,
         },
     }
@@ -64,7 +63,7 @@ fn part_at(byte: u8, rest: &[u8]) -> WrittenPart
         }
     } else if byte == b'?' {
         WrittenPart {
-            part: Part::OneOf(all()),
+            part: Part::OneOf(ByteSet::all()),
             behind: 0,
         }
     } else if byte == b'\\' {
@@ -73,7 +72,7 @@ fn part_at(byte: u8, rest: &[u8]) -> WrittenPart
         bracket_or_byte(rest)
     } else {
         WrittenPart {
-            part: Part::OneOf(one(byte)),
+            part: Part::OneOf(ByteSet::one(byte)),
             behind: 0,
         }
     }

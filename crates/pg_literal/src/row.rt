@@ -4,14 +4,13 @@ ghost use Rattle.std.specs.Prelude.{MatchOption, IfOk, IfSome};
 ghost use Rattle.std.specs.Prelude.{IsTrue, IsSomeAnd, OnOk, nat_eq, ◌&&◌, if◌then◌else◌};
 ghost use Rattle.std.specs.List.{flat_map};
 ghost use Rattle.pg_bytes.specs.ByteSets.{bytes};
-ghost use Rattle.pg_bytes.specs.Sets.{one};
-ghost use Rattle.pg_pattern.specs.Patterns.{folded};
 ghost use Rattle.pg_literal.specs.Literals.{as_searched};
 ghost use Rattle.pg_literal.specs.Rows.{items_of, byte_as_searched, row_of, IsAlone, AreChoices, AreProduct};
 ghost use Rattle.pg_literal.specs.Known.{sets_of};
 
 use crate::cost::{FEW, RAREST, rarity_of};
 use pg_bytes::ByteSet;
+use pg_pattern::folded;
 use std::alloc::{AllocError, Allocator};
 
 /// How rows are multiplied out.
@@ -92,8 +91,7 @@ fn as_searched(byte: u8, fold: bool) -> u8
 fn is_from(set: &ByteSet, bound: u8) -> bool
     ensures { IsTrue result → (b : ℕ) → b < bound → bytes set.now b ≡ true → ⊥ }
 {
-    let mut high = ByteSet::empty();
-    high.insert_range(bound, u8::MAX);
+    let high = ByteSet::between(bound, u8::MAX);
     set.union(high) == high
 }
 
@@ -122,15 +120,6 @@ fn first_byte(set: &ByteSet) -> Option<u8>
     None
 }
 
-/// The set of the bytes that are searched for as a byte is.
-fn set_of(byte: u8, fold: bool) -> ByteSet
-    ensures { bytes result ≡ folded fold (one byte) }
-{
-    let mut set = ByteSet::empty();
-    set.insert(byte);
-    if fold { set.close_case() } else { set }
-}
-
 /// The byte that those of a set are searched for as, where the set has all that are searched for as that byte.
 fn only_byte(set: &ByteSet, fold: bool) -> Option<u8>
     ensures { MatchOption result ((b : ℕ) → IsAlone fold (bytes set.now) b → ⊥) (IsAlone fold (bytes set.now)) }
@@ -138,7 +127,7 @@ fn only_byte(set: &ByteSet, fold: bool) -> Option<u8>
     let first = first_byte(set)?;
     let byte = as_searched(first, fold);
     // Most sets are of one byte, and are told so without a look at all others.
-    if *set == set_of(first, fold) {
+    if *set == folded(ByteSet::one(first), fold) {
         return Some(byte);
     }
     for other in 0..=u8::MAX {

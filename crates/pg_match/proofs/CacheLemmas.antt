@@ -574,6 +574,10 @@ walking_four m mem l from state p at a b c d is_m is small more ra ba rb bb rc b
 pub visits_small : (p n v : ℕ) → v ≤ (p + 1) * n → p ≤ 2 ^ 30 → n < 2 ^ 64 → v < 2 ^ 98
 visits_small p n v le short few = let less : n ≤ 2 ^ 64 = omega arith in omega (arith, mul-le-mul_left (p + 1) less)
 
+-- what was visited before, and at some places since
+pub visits_since : (k n u v : ℕ) → v ≤ u + k * n → u < 2 ^ 96 → k ≤ 2 ^ 30 → n < 2 ^ 64 → v < 2 ^ 97
+visits_since k n u v le before short few = let less : n ≤ 2 ^ 64 = omega arith in omega (arith, mul-le-mul_left k less)
+
 pub visits_later : (p h n v : ℕ) → v ≤ (p + 1) * n → p ≤ h → v ≤ (h + 1) * n
 visits_later p h n v le later = let more : p + 1 ≤ h + 1 = omega arith in omega (arith, mul-le-mul_left n more)
 

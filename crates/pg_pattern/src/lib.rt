@@ -6,8 +6,10 @@
 #![tactic(auto)]
 
 mod bounds;
+mod case;
 pub mod laws;
 mod tree;
 
 pub use bounds::{Bounds, is_word_byte};
+pub use case::folded;
 pub use tree::Tree;

@@ -9,9 +9,9 @@ ghost use Rattle.pg_syntax.specs.BracketPlaces.{GoesOn, FaultPlace, FaultPlaced,
 ghost use Rattle.pg_syntax.specs.Tokens.{FindsSet};
 
 use crate::element::{Element, element_at};
-use crate::sets::{folded, one};
 use pg_bytes::ByteSet;
 use pg_grammar::{FaultKind, SyntaxFault};
+use pg_pattern::folded;
 
 /// What the last element may still do. The offset is that of the element, or of the one that began
 /// the range.
@@ -113,9 +113,9 @@ impl<'a> Reading<'a> {
             Mode::Held(start, held) => self.add(held.member(), held.fault(start)),
             Mode::Dashed(start, held) => {
                 self.add(held.member(), held.fault(start));
-                self.set = self.set.union(one(b'-'));
+                self.set = self.set.union(ByteSet::one(b'-'));
             }
-            Mode::Barred(_) => self.set = self.set.union(one(b'-')),
+            Mode::Barred(_) => self.set = self.set.union(ByteSet::one(b'-')),
         }
         match self.fault {
             Some(fault) => Err(fault),

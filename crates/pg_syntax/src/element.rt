@@ -9,7 +9,6 @@ ghost use Rattle.pg_syntax.specs.BracketPlaces.{Holds, FaultPlace, FindsElement}
 ghost use Rattle.pg_grammar.specs.Places.{IsBadRange};
 ghost use Rattle.pg_syntax.specs.Reads.{EndsContent};
 
-use crate::sets::one;
 use pg_bytes::{ByteSet, class};
 use pg_grammar::{FaultKind, SyntaxFault};
 
@@ -36,13 +35,13 @@ impl<'a> Element<'a> {
         ensures { option_map bytes result ≡ member (element self.entry) }
     {
         match self {
-            Element::Single(byte) => Some(one(byte)),
+            Element::Single(byte) => Some(ByteSet::one(byte)),
             Element::Enclosed(mark, content) => {
                 if mark == b':' {
                     class(content)
                 } else {
                     match only_byte(content) {
-                        Some(byte) => Some(one(byte)),
+                        Some(byte) => Some(ByteSet::one(byte)),
                         None => None,
                     }
                 }
@@ -126,9 +125,7 @@ impl<'a> Element<'a> {
         if low > high {
             return None;
         }
-        let mut set = ByteSet::empty();
-        set.insert_range(low, high);
-        Some(set)
+        Some(ByteSet::between(low, high))
     }
 }
 

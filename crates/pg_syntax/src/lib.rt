@@ -11,7 +11,6 @@ mod element;
 mod interval;
 mod list;
 mod parser;
-mod sets;
 mod source;
 mod token;
 

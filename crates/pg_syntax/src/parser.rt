@@ -10,11 +10,11 @@ ghost use Rattle.pg_syntax.specs.States.{state_of, Did};
 ghost use Rattle.pg_syntax.specs.Tokens.{token_of, blame, Applies};
 
 use crate::builder::Builder;
-use crate::sets::{folded, one};
 use crate::source::Source;
 use crate::token::Token;
+use pg_bytes::ByteSet;
 use pg_grammar::{FaultKind, Syntax, SyntaxFault};
-use pg_pattern::Tree;
+use pg_pattern::{Tree, folded};
 use std::alloc::{AllocError, Allocator};
 
 /// How many bytes a text may have.
@@ -94,9 +94,9 @@ fn literal<A: Allocator + Copy>(alloc: A, text: &[u8], fold: bool) -> Result<Tre
     requires { 0 < length text.now }
     ensures { IfOk result (λ tree. Literal fold text.now (pattern tree)) }
 {
-    let mut tree = Tree::Set(folded(one(text[0]), fold));
+    let mut tree = Tree::Set(folded(ByteSet::one(text[0]), fold));
     for at in 1..text.len() {
-        let next = Tree::Set(folded(one(text[at]), fold));
+        let next = Tree::Set(folded(ByteSet::one(text[at]), fold));
         tree = Tree::cat(alloc, tree, next)?;
     }
     Ok(tree)

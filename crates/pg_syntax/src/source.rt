@@ -16,10 +16,10 @@ ghost use Rattle.pg_syntax.specs.States.{state_of};
 
 use crate::bracket::bracket;
 use crate::builder::Builder;
-use crate::sets::{all, folded, one};
 use crate::token::Token;
 use pg_bytes::ByteSet;
 use pg_grammar::{FaultKind, Syntax, SyntaxFault};
+use pg_pattern::folded;
 use std::alloc::Allocator;
 
 /// A text, and how it is read.
@@ -89,7 +89,7 @@ impl Source<'_> {
     fn one(&self, byte: u8) -> Token
         ensures { token_of result ≡ Part (Set (folded self.now.fold (one byte))) }
     {
-        Token::Set(folded(one(byte), self.fold))
+        Token::Set(folded(ByteSet::one(byte), self.fold))
     }
 
     /// The repetition of an interval: what opens it stands at `at`, and its bounds right behind that, at `start`, which
@@ -197,7 +197,7 @@ impl Source<'_> {
             return Ok((Token::Set(set), end));
         }
         if byte == b'.' {
-            return Ok((Token::Set(all()), rest));
+            return Ok((Token::Set(ByteSet::all()), rest));
         }
         if byte == b'*' && builder.has_item() {
             return Ok((Token::Repeat(0, None), rest));
@@ -234,7 +234,7 @@ impl Source<'_> {
             return Ok((Token::Set(set), end));
         }
         if byte == b'.' {
-            return Ok((Token::Set(all()), rest));
+            return Ok((Token::Set(ByteSet::all()), rest));
         }
         if byte == b'*' {
             return Ok((Token::Repeat(0, None), rest));

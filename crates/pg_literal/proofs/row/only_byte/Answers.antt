@@ -33,7 +33,7 @@ pub returns-then-eq : goal.returns-then-eq
 returns-then-eq c =
     let fold = c.args.fold in
     let first = c.in_ok-first.first in
-    let same = (same_sets c.args.set.now c.set_of.result).0 (sym c.eq.ensures ∙ c.if-eq.true) in
-    let is = ap bytes same ∙ c.set_of.ensures in
+    let same = (same_sets c.args.set.now c.folded.result).0 (sym c.eq.ensures ∙ c.if-eq.true) in
+    let is = ap bytes same ∙ (c.folded.ensures ∙ ap (folded fold) c.one.ensures) in
     subst (λ s. IsAlone fold s c.as_searched-byte.result) (sym is)
     (subst (IsAlone fold (folded fold (one first))) (sym c.as_searched-byte.ensures) (folded_alone fold first))

@@ -1,7 +1,7 @@
 use Rattle.std.proofs.Common.{◌-◌, ◌+◌, ◌∙◌, arith, length, Some, subst}
 use Rattle.pg_match.specs.Anchored.{IsLongestFrom}
 use Rattle.pg_match.specs.Views.{nfa, remembered}
-use Rattle.pg_match.proofs.CacheLemmas.{told_on}
+use Rattle.pg_match.proofs.CacheLemmas.{told_on, visits_since}
 use Rattle.pg_match.proofs.SingleStartLemmas.{follows_keeps, follows_anchored, visits_less, visits_step, visits_sum}
 use Rattle.pg_match.proofs.automaton.Automaton.finish_by_cache.Goals as goal
 
@@ -24,6 +24,22 @@ finish_uncached-requires-clause-follows g c =
     follows_keeps (nfa c.args.self.now) (remembered c.loop-at.memory) (remembered c.learn_alone.new.memory)
     c.args.line.now at.start at.place c.loop-at.state (Some at.last) c.learn_alone.ensures.keeps
     c.loop-at.invariant.follows
+
+pub learn_alone-requires-clause-visits : goal.learn_alone-requires-clause-visits
+learn_alone-requires-clause-visits g c =
+    let at = c.loop-at.at.place in
+    let seen = visits_since (at - c.args.run.place) (length c.args.self.now.states.items) c.args.sets.now.visits
+    c.loop-at.sets.visits c.loop-at.invariant.visits c.requires.visits
+    (omega (arith, c.loop-at.invariant.follows.within, c.requires.short)) (omega arith) in
+    omega (arith, seen)
+
+pub finish_uncached-requires-clause-visits : goal.finish_uncached-requires-clause-visits
+finish_uncached-requires-clause-visits g c =
+    let at = c.loop-at.at.place in
+    let seen = visits_since (at - c.args.run.place) (length c.args.self.now.states.items) c.args.sets.now.visits
+    c.loop-at.sets.visits c.loop-at.invariant.visits c.requires.visits
+    (omega (arith, c.loop-at.invariant.follows.within, c.requires.short)) (omega arith) in
+    omega (arith, seen, c.learn_alone.ensures.visits)
 
 pub returns-in_default-clause-longest : goal.returns-in_default-clause-longest
 returns-in_default-clause-longest g c =

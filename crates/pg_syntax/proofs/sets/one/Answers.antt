@@ -1,6 +1,0 @@
-use Rattle.std.proofs.Common.{ap, ◌∙◌}
-use Rattle.pg_bytes.specs.Sets.{with}
-use Rattle.pg_syntax.proofs.sets.one.Goals as goal
-
-pub returns : goal.returns
-returns c = c.insert.ensures ∙ ap (with c.args.byte) c.empty-set.ensures
