@@ -27,10 +27,11 @@ module _ {A : Type 0} (text : SearchText) (bytes : List ℕ) (strings : BlockStr
   -- a line that stands at a place of the bytes
   pub judges_line : at + length line ≤ length bytes → line ≡ take (length line) (drop at bytes)
       → JudgesLine text strings line at
-  judges_line within is = (
-    if_some_more _ _ strings.set (λ set known. let l = lies known.1 in (known.0, l.0, l.1)) are.0,
-    if_some_more _ _ strings.head (λ head known. let l = lies known.1 in (known.0, l.0, l.1)) are.1,
-  )
+  judges_line within is = record {
+    set = if_some_more _ _ strings.set (λ set known. let l = lies known.1 in (known.0, l.0, l.1)) are.set;
+    head = if_some_more _ _ strings.head (λ head known. let l = lies known.1 in (known.0, l.0, l.1)) are.head;
+    suffix = are.suffix;
+  }
     where
       lies : strings.searched.now ≡ as_searched text.fold bytes → (at + length line ≤ length strings.searched.now)
           × (slice_range strings.searched.now at (at + length line) ≡ as_searched text.fold line)

@@ -11,6 +11,7 @@ pub mod NeedleLemmas
 pub mod NeedleSetLemmas
 pub mod SoughtLemmas
 pub mod StringLemmas
+pub mod SuffixLemmas
 pub mod StandingLemmas
 pub mod PartLemmas
 pub mod PatternLemmas

@@ -1,4 +1,5 @@
--- Queries whose patterns are all fixed strings, and where these stand in a line (XCU grep, -F; GNU grep, -w and -o).
+-- Queries whose patterns are all fixed strings, or whose matches begin alike or are a line's end, and where these stand
+-- in a line (XCU grep, -F; GNU grep, -w and -o).
 use Rattle.std.specs.Prelude.{◌≡◌, ℕ, ◌+◌, ◌<◌, ◌≤◌, List, length, map, slice_range, IfSome}
 use Rattle.std.specs.Prelude.{Option, MatchOption, IsTrue}
 use Rattle.std.specs.List.{Any}
@@ -6,6 +7,8 @@ use Rattle.memchr.specs.Find.{OccursAt}
 use Rattle.pg_pattern.specs.Bounds.{MayBegin, MayEnd}
 use Rattle.pg_pattern.specs.Hits.{Hit, IsNext}
 use Rattle.pg_literal.specs.Literals.{as_searched}
+use Rattle.pg_literal.specs.Suffixes.{IsSuffix, suffix_row}
+use Rattle.pg_literal.specs.declared.suffix.LineSuffix.{LineSuffix}
 use Rattle.pg_strings.specs.Outcomes.{strings_of}
 use Rattle.pg_selection.specs.Search.{SearchText, Pattern, Bounds, Fixed, AreTreesOf, bounds_of, patterns}
 use Rattle.pg_lines.specs.Literals.{AreLiterals, set_literals}
@@ -73,20 +76,26 @@ IsHead text head =
     (trees : List Pattern) → AreTreesOf text trees → (line : List ℕ) (i j : ℕ) → Hit trees (bounds_of text) line i j
     → (i < j) × OccursAt (as_searched text.fold line) head i
 
--- the strings of a query or the text that its hits begin with, if there are such, and the bytes as they are searched
--- for in them
-abbrev pub AreBlockStrings : {A : Type 0} → SearchText → List ℕ → BlockStrings A → Type 0
-AreBlockStrings text bytes strings =
-    IfSome strings.set (λ set. AreStrings text (strings_of set.now)
-    × (strings.searched.now ≡ as_searched text.fold bytes))
-    × IfSome strings.head (λ head. IsHead text head × (strings.searched.now ≡ as_searched text.fold bytes))
+-- the hits of the search are where the suffix stands at a line's end
+abbrev pub IsSuffixOf : {A : Type 0} → SearchText → LineSuffix A → Type 0
+IsSuffixOf text suffix =
+    (trees : List Pattern) → AreTreesOf text trees → IsSuffix trees (bounds_of text) (suffix_row suffix)
+
+-- the strings of a query, the text that its hits begin with, or the suffix that they are, if there are such; and the
+-- bytes as they are searched for in them
+pub record AreBlockStrings {A : Type 0} (text : SearchText) (bytes : List ℕ) (strings : BlockStrings A) : Type 0 where
+  pub set : IfSome strings.set (λ set. AreStrings text (strings_of set.now)
+      × (strings.searched.now ≡ as_searched text.fold bytes))
+  pub head : IfSome strings.head (λ head. IsHead text head × (strings.searched.now ≡ as_searched text.fold bytes))
+  pub suffix : IfSome strings.suffix (λ suffix. IsSuffixOf text suffix.now)
 
 -- the same, where the line stands at a place of the bytes
-abbrev pub JudgesLine : {A : Type 0} → SearchText → BlockStrings A → List ℕ → ℕ → Type 0
-JudgesLine text strings line at =
-    IfSome strings.set (λ set. AreStrings text (strings_of set.now)
-    × (at + length line ≤ length strings.searched.now)
-    × (slice_range strings.searched.now at (at + length line) ≡ as_searched text.fold line))
-    × IfSome strings.head (λ head. IsHead text head
-    × (at + length line ≤ length strings.searched.now)
-    × (slice_range strings.searched.now at (at + length line) ≡ as_searched text.fold line))
+pub record JudgesLine {A : Type 0} (text : SearchText) (strings : BlockStrings A) (line : List ℕ) (at : ℕ) : Type 0
+  where
+    pub set : IfSome strings.set (λ set. AreStrings text (strings_of set.now)
+        × (at + length line ≤ length strings.searched.now)
+        × (slice_range strings.searched.now at (at + length line) ≡ as_searched text.fold line))
+    pub head : IfSome strings.head (λ head. IsHead text head
+        × (at + length line ≤ length strings.searched.now)
+        × (slice_range strings.searched.now at (at + length line) ≡ as_searched text.fold line))
+    pub suffix : IfSome strings.suffix (λ suffix. IsSuffixOf text suffix.now)

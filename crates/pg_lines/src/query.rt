@@ -7,12 +7,12 @@ ghost use Rattle.pg_selection.specs.Search.{AreTreesOf, HasTrees, Fixed, pattern
 ghost use Rattle.pg_blocks.specs.Lines.{IsLine};
 ghost use Rattle.pg_literal.specs.Literals.{as_searched};
 ghost use Rattle.pg_lines.specs.Literals.{AreLiterals, TellHeads, data_of};
-ghost use Rattle.pg_lines.specs.Strings.{IsSetOf};
+ghost use Rattle.pg_lines.specs.Strings.{IsSetOf, IsSuffixOf};
 ghost use Rattle.pg_lines.specs.Queries.{IsCompiled, IsQueryFault};
 ghost use Rattle.pg_lines.specs.declared.query.QueryFault.TheVariants.{OutOfMemory};
 
 use crate::literal_set::{LiteralSet, few_of};
-use pg_literal::Literal;
+use pg_literal::{LineSuffix, Literal};
 use pg_match::{BuildFault, Machine};
 use pg_pattern::Tree;
 use pg_selection::{QueryText, Selector};
@@ -54,6 +54,8 @@ pub struct Query<A: Allocator = Global> {
     literals: Vec<Literal<A>, A>,
     /// All literals, if there are many.
     literal_set: Option<LiteralSet<A>>,
+    /// The suffix that each match is, if there is one.
+    suffix: Option<LineSuffix<A>>,
 }
 
 impl<A: Allocator> Drop for Query<A> {
@@ -63,6 +65,7 @@ impl<A: Allocator> Drop for Query<A> {
             machine: _,
             literals: _,
             literal_set: _,
+            suffix: _,
         } = self;
     }
 }
@@ -71,7 +74,7 @@ impl<A: Allocator> Model for Query<A> {
     ghost use Rattle.std.specs.Prelude.{map, IfSome};
     ghost use Rattle.std.specs.Arc.{arc_value};
     ghost use Rattle.pg_lines.specs.Literals.{AreLiterals, TellHeads, data_of};
-    ghost use Rattle.pg_lines.specs.Strings.{IsSetOf};
+    ghost use Rattle.pg_lines.specs.Strings.{IsSetOf, IsSuffixOf};
     ghost use Rattle.pg_lines.specs.Queries.{Compiled, IsCompiled};
 
     ghost Value = { Compiled };
@@ -81,7 +84,8 @@ impl<A: Allocator> Model for Query<A> {
     ghost invariant = { λ q. IsCompiled (record { text = arc_value q.selector; machine = q.machine })
         × AreLiterals (arc_value q.selector) (map data_of q.literals.items)
         × TellHeads (arc_value q.selector) q.literals.items
-        × IfSome q.literal_set (IsSetOf (arc_value q.selector)) };
+        × IfSome q.literal_set (IsSetOf (arc_value q.selector))
+        × IfSome q.suffix (IsSuffixOf (arc_value q.selector)) };
 }
 
 impl<A: Allocator> Query<A> {
@@ -103,12 +107,14 @@ impl<A: Allocator> Query<A> {
         let machine = machine_of(alloc, &text, trees.as_slice())?;
         let literals = literals_of(alloc, &text, trees.as_slice())?;
         let literal_set = LiteralSet::of(alloc, &literals, is_fixed(&text), text.bounds())?;
+        let suffix = suffix_of(alloc, &text, trees.as_slice())?;
         let selector = selector_of(alloc, text)?;
         Ok(Query {
             selector,
             machine,
             literals: few_of(alloc, literals),
             literal_set,
+            suffix,
         })
     }
 
@@ -158,6 +164,13 @@ impl<A: Allocator> Query<A> {
         ensures { IfSome result (λ set. IsSetOf self.now.text set.now) }
     {
         self.literal_set.as_ref()
+    }
+
+    /// The suffix that each match is, if there is one: then it alone judges lines, and the machine isn't asked.
+    pub(crate) fn suffix(&self) -> Option<&LineSuffix<A>>
+        ensures { IfSome result (λ suffix. IsSuffixOf self.now.text suffix.now) }
+    {
+        self.suffix.as_ref()
     }
 }
 
@@ -237,6 +250,18 @@ fn literals_of<A: Allocator + Copy>(
     } else {
         Ok(Vec::new(alloc))
     }
+}
+
+/// The suffix that each match of a text's patterns is, whose trees these are, where there is one.
+fn suffix_of<A: Allocator + Copy>(
+    alloc: A,
+    text: &QueryText<A>,
+    trees: &[Tree<A>],
+) -> Result<Option<LineSuffix<A>>, AllocError>
+    requires trees { AreTreesOf text.now (map pattern trees.now) }
+    ensures { IfOk result (λ found. IfSome found (IsSuffixOf text.now)) }
+{
+    LineSuffix::of(alloc, trees, text.bounds())
 }
 
 /// Whether no literal has the byte that ends a line.

@@ -155,7 +155,7 @@ fn next_by_automaton<A: Allocator>(
     ensures found { MatchOption result (HasNoNextHit query.now.text bytes.now at)
         (IsNextHit query.now.text bytes.now at) }
 {
-    let strings = BlockStrings::new(None, None, bytes);
+    let strings = BlockStrings::new(None, None, None, bytes);
     next_matched(query, &strings, scratch, bytes, at)
 }
 
@@ -360,7 +360,12 @@ fn search_by<A: Allocator + Copy>(
     if !query.text().with_parts && hits_each_line(query, literals) {
         return runs_of_each_line(alloc, query, bytes);
     }
-    let strings = BlockStrings::new(fixed_strings(set), only_head(query, literals), searched);
+    let strings = BlockStrings::new(
+        fixed_strings(set),
+        only_head(query, literals),
+        query.suffix(),
+        searched,
+    );
     let mut needles = Needles::new(alloc, literals, sought_set(query, set), searched)?;
     selected_runs(alloc, query, &strings, &mut needles, scratch, bytes)
 }

@@ -1,15 +1,16 @@
-//! What judges lines before the automaton: the strings of a query whose patterns are all fixed strings, or a text that
-//! each match begins with.
+//! What judges lines before the automaton: the strings of a query whose patterns are all fixed strings, a text that
+//! each match begins with, or a suffix of lines that each match is.
 ghost use Rattle.std.specs.Prelude.{◌≡◌, ◌↔◌, ◌+◌, ◌<◌, ◌≤◌, List, length, IfSome, IsTrue, None};
 ghost use Rattle.pg_strings.specs.Outcomes.{strings_of};
-ghost use Rattle.pg_selection.specs.Search.{SearchText, Pattern, AreTreesOf, bounds_of};
+ghost use Rattle.pg_selection.specs.Search.{SearchText, Pattern, Bounds, AreTreesOf, bounds_of};
 ghost use Rattle.pg_lines.specs.Literals.{TellHeads};
+ghost use Rattle.pg_literal.specs.Suffixes.{IsSuffix, suffix_row};
 ghost use Rattle.pg_lines.specs.Strings.{IsLongestHit, FindsString, FindsPart, IsHead, JudgesLine};
 
 use crate::query::Query;
 use memchr::memmem::Finder;
 use pg_blocks::Span;
-use pg_literal::Literal;
+use pg_literal::{LineSuffix, Literal};
 use pg_pattern::Bounds;
 use pg_strings::{Budget, Outcome, StringSet};
 use std::alloc::Allocator;
@@ -32,10 +33,11 @@ pub(crate) enum NextString {
 }
 
 /// The strings by which the lines of a block are judged, if the query is one of fixed strings; or the text that each
-/// match begins with, if there is one and parts are asked for; and the block's bytes.
+/// match begins with, if there is one and parts are asked for; or the suffix that each match is; and the block's bytes.
 pub(crate) struct BlockStrings<'s, A: Allocator> {
     set: Option<&'s StringSet<A>>,
     head: Option<Finder<'s>>,
+    suffix: Option<&'s LineSuffix<A>>,
     /// The block's bytes, where case is folded in lower case.
     searched: &'s [u8],
 }
@@ -45,6 +47,7 @@ impl<'s, A: Allocator> Drop for BlockStrings<'s, A> {
         let BlockStrings {
             set: _,
             head: _,
+            suffix: _,
             searched: _,
         } = self;
     }
@@ -132,6 +135,23 @@ fn next_string<A: Allocator>(
     }
 }
 
+/// The match of a line, from a place on, whose matches are a suffix.
+fn next_suffix<A: Allocator>(suffix: &LineSuffix<A>, line: &[u8], from: usize) -> NextString
+    ensures { (trees : List Pattern) (bounds : Bounds) → IsSuffix trees bounds (suffix_row suffix.now)
+        → FindsPart trees bounds line.now from result }
+{
+    let Some(start) = suffix.find(line) else {
+        return NextString::Nowhere;
+    };
+    if start < from {
+        return NextString::Nowhere;
+    }
+    NextString::Found(Span {
+        start,
+        end: line.len(),
+    })
+}
+
 /// The text that each match of a query begins with, if it has but this literal, and parts of lines are asked for. Where
 /// they aren't, a line is judged faster by the automaton alone, which needn't find where a match ends.
 pub(crate) fn only_head<'l, A: Allocator>(
@@ -153,24 +173,27 @@ impl<'s, A: Allocator> BlockStrings<'s, A> {
     pub fn new(
         set: Option<&'s StringSet<A>>,
         head: Option<Finder<'s>>,
+        suffix: Option<&'s LineSuffix<A>>,
         searched: &'s [u8],
     ) -> BlockStrings<'s, A>
         ensures set { result.set ≡ set.entry }
         ensures head { result.head ≡ head.entry }
+        ensures suffix { result.suffix ≡ suffix.entry }
         ensures searched { result.searched.now ≡ searched.now }
     {
         BlockStrings {
             set,
             head,
+            suffix,
             searched,
         }
     }
 
     /// Whether there is nothing to look for before the automaton is asked.
     pub fn are_none(&self) -> bool
-        ensures { IsTrue result ↔ ((self.now.set ≡ None) × (self.now.head ≡ None)) }
+        ensures { IsTrue result ↔ ((self.now.set ≡ None) × (self.now.head ≡ None) × (self.now.suffix ≡ None)) }
     {
-        self.set.is_none() && self.head.is_none()
+        self.set.is_none() && self.head.is_none() && self.suffix.is_none()
     }
 
     /// Where the text next stands that each match begins with, from a place of the line on.
@@ -204,7 +227,10 @@ impl<'s, A: Allocator> BlockStrings<'s, A> {
                 let searched = &self.searched[at..at + line.len()];
                 next_string(set, query.text().bounds(), searched, from)
             }
-            None => self.next_head(line, at, from),
+            None => match self.suffix {
+                Some(suffix) => next_suffix(suffix, line, from),
+                None => self.next_head(line, at, from),
+            },
         }
     }
 }

@@ -3,3 +3,4 @@ pub mod InnerLemmas
 pub mod KnownLemmas
 pub mod LiteralLemmas
 pub mod RowLemmas
+pub mod SuffixLemmas

@@ -3,3 +3,4 @@ pub mod Rows
 pub mod Known
 pub mod Added
 pub mod Inner
+pub mod Suffixes

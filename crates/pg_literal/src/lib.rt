@@ -10,5 +10,7 @@ mod inner;
 mod known;
 mod literal;
 mod row;
+mod suffix;
 
 pub use literal::Literal;
+pub use suffix::LineSuffix;

@@ -1,5 +1,6 @@
-use Rattle.std.proofs.Common.{length, arith}
-use Rattle.pg_lines.specs.Strings.{IsSetOf}
+use Rattle.std.proofs.Common.{length, arith, subst, sym}
+use Rattle.std.specs.Prelude.{IfSome}
+use Rattle.pg_lines.specs.Strings.{IsSetOf, IsSuffixOf}
 use Rattle.pg_lines.proofs.JudgeLemmas.{if_some_more, sought_known, strings_known, head_known}
 use Rattle.pg_lines.proofs.search.search_by.Goals as goal
 
@@ -13,13 +14,15 @@ selected_runs-requires-clause-ready g c =
     let known = if_some_more _ _ _ (λ set (of : IsSetOf text set.now). of.0) c.requires.set in
     record {
       within = omega arith;
-      strings = (
-        strings_known text bytes searched new.result.searched.now c.args.set c.fixed_strings.result new.result.set
-            c.requires.set c.requires.set_searched c.fixed_strings.ensures new.ensures.set new.ensures.searched,
-        head_known text bytes searched new.result.searched.now c.only_head.result new.result.head
+      strings = record {
+        set = strings_known text bytes searched new.result.searched.now c.args.set c.fixed_strings.result
+            new.result.set c.requires.set c.requires.set_searched c.fixed_strings.ensures new.ensures.set
+            new.ensures.searched;
+        head = head_known text bytes searched new.result.searched.now c.only_head.result new.result.head
             (length c.args.literals.now) c.requires.searched c.only_head.ensures.head c.only_head.ensures.some
-            new.ensures.head new.ensures.searched,
-      );
+            new.ensures.head new.ensures.searched;
+        suffix = subst (λ o. IfSome o (λ suffix. IsSuffixOf text suffix.now)) (sym new.ensures.suffix) c.suffix.ensures;
+      };
       needles = c.in_ok-needles.ensures text bytes c.requires.literals (sought_known _ _ _ sought known)
           c.requires.searched (sought_known _ _ _ sought c.requires.set_searched);
       fits = c.requires.fits;

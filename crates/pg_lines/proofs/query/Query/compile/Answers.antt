@@ -4,7 +4,7 @@ use Rattle.pg_literal.specs.declared.literal.Literal.{Literal}
 use Rattle.pg_literal.specs.Literals.{as_searched}
 use Rattle.pg_lines.specs.Literals.{AreLiterals, TellHeads, data_of}
 use Rattle.pg_lines.specs.Queries.{IsCompiled}
-use Rattle.pg_lines.specs.Strings.{IsSetOf}
+use Rattle.pg_lines.specs.Strings.{IsSetOf, IsSuffixOf}
 use Rattle.pg_selection.specs.Search.{SearchText, Fixed, patterns}
 use Rattle.pg_lines.proofs.LiteralLemmas.{no_literals}
 use Rattle.pg_lines.proofs.NeedleSetLemmas.{prepared_are, set_is}
@@ -25,7 +25,8 @@ invariant_of-result g c =
     let machine = c.in_ok-machine.machine in
     let set = c.in_ok-literal_set.literal_set in
     let Fits : SearchText → Type 0 = λ t. IsCompiled (record { text = t; machine = machine })
-    × AreLiterals t (map data_of few) × TellHeads t few × IfSome set (IsSetOf t) in
+    × AreLiterals t (map data_of few) × TellHeads t few × IfSome set (IsSetOf t)
+    × IfSome c.in_ok-suffix.suffix (IsSuffixOf t) in
     subst Fits (sym c.in_ok-selector.ensures) (
       c.in_ok-machine.ensures.machine,
       elim c.few_of.ensures [
@@ -40,6 +41,7 @@ invariant_of-result g c =
           c.in_ok-literal_set.ensures.strings c.in_ok-literal_set.ensures.fixed
           (prepared_are text c.deref.result.now c.in_ok-literal_set.literal_set seen
           c.in_ok-literal_set.ensures.strings c.in_ok-literal_set.ensures.enough),
+      c.in_ok-suffix.ensures,
     )
 
 pub returns-clause-compiled : goal.returns-clause-compiled

@@ -12,15 +12,20 @@ returns-in-Some g c = λ trees spelled.
     let strings = strings_of c.in-Some.set.now in
     let line = c.args.line.now in
     let result = c.next_string.result in
-    let own = rw c.in-Some.is at c.requires.line.0 in
+    let own = rw c.in-Some.is at c.requires.line.set in
     let same = c.bounds.ensures ∙ ap bounds_of c.text.ensures.text in
     let Found : List ℕ → Type 0 = λ l. FindsString strings c.bounds.result l c.args.from result in
     let Part : Bounds → Type 0 = λ b. FindsPart trees b line c.args.from result in
     subst Part same (found_part text strings own.0 trees spelled c.bounds.result line c.args.from result
     (subst Found own.2 c.next_string.ensures))
 
-pub returns-in-None : goal.returns-in-None
-returns-in-None g c = c.next_head.ensures c.args.query.now.text c.requires.line
+pub returns-in-Some-suffix : goal.returns-in-Some-suffix
+returns-in-Some-suffix g c = λ trees spelled.
+    let own = rw c.in-Some-suffix.is at c.requires.line.suffix in
+    c.next_suffix.ensures trees (bounds_of c.args.query.now.text) (own trees spelled)
+
+pub returns-in-None-suffix : goal.returns-in-None-suffix
+returns-in-None-suffix g c = c.next_head.ensures c.args.query.now.text c.requires.line
 
 pub next_head-requires-clause-line : goal.next_head-requires-clause-line
-next_head-requires-clause-line g c = if_some_more _ _ c.args.self.now.head (λ head known. known.1) c.requires.line.1
+next_head-requires-clause-line g c = if_some_more _ _ c.args.self.now.head (λ head known. known.1) c.requires.line.head
