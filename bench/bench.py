@@ -179,6 +179,8 @@ def cases(folder, megabytes):
     yield from split("-oE a*b|a", "letters")
     write(folder / "log", texts.log(20))
     yield from split(LOG, "log")
+    write(folder / "agents", texts.agents(20))
+    yield from split('-cE x86_64\\)"$\n-c "$\n-vc 64$\n-cE [0-9][)]"$', "agents")
     write(folder / "line", texts.one_line())
     yield from split('-oE "id":[0-9]+\n-cE "id":6[0-9]+99\n-oF 99', "line")
     write(folder / "binary", texts.binary(64))

@@ -140,6 +140,17 @@ def log(megabytes):
     return ("\n".join(lines) + "\n").encode()
 
 
+def agents(megabytes):
+    """Lines of a log that all end alike, with the program that asked."""
+    chance, lines, size = random.Random(29), [], 0
+    while size < megabytes * MEGABYTE:
+        path, status = f"/item/{chance.getrandbits(40):x}", chance.choice((200, 200, 301, 404))
+        line = f'"GET {path} HTTP/1.1" {status} {chance.randint(0, 99_999)} "-" "Mozilla/5.0 (X11; Linux x86_64)"'
+        lines.append(line)
+        size += len(line) + 1
+    return ("\n".join(lines) + "\n").encode()
+
+
 def one_line():
     """One line of 13 MB, an array of 700,000 objects."""
     return ("".join(f'{{"id":{number},"n":1}},' for number in range(700_000)) + "\n").encode()

@@ -1,5 +1,5 @@
 -- Lines that are judged by their ends.
-use Rattle.std.proofs.Common.{◌≡◌, ◌∙◌, ℕ, ◌+◌, ◌<◌, ◌≤◌, List, length, Option, Some, None, arith, refl, subst, sym}
+use Rattle.std.proofs.Common.{◌≡◌, ℕ, ◌≤◌, List, length, Option, Some, None, arith, refl, subst}
 use Rattle.std.specs.Prelude.{IfOk, IfSome, Result, Ok, Err}
 use Rattle.pg_literal.specs.Suffixes.{EndsWith, IsSuffix, suffix_row}
 use Rattle.pg_literal.specs.declared.suffix.LineSuffix.{LineSuffix}

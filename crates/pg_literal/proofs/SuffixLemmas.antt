@@ -1,9 +1,9 @@
 -- Rows of sets that stand at the line's end.
-use Rattle.std.proofs.Common.{◌≡◌, ◌∙◌, ◌↔◌, ℕ, zero, suc, ◌+◌, ◌-◌, ◌<◌, ◌≤◌, List, [], ◌∷◌, ◌++◌, length, map}
+use Rattle.std.proofs.Common.{◌≡◌, ◌∙◌, ◌↔◌, ℕ, ◌+◌, ◌-◌, ◌<◌, ◌≤◌, List, [], ◌∷◌, ◌++◌, length, map}
 use Rattle.std.proofs.Common.{reverse, take, drop, get_or, true, Some, refl, sym, ap, subst, arith, length-append}
 use Rattle.std.specs.Prelude.{slice_get, IfOk, IfSome, None, Option, Result, Ok, Err}
-use Rattle.std.proofs.lemmas.List.{map-append, reverse-append, length-map, length-reverse, take_more, take_all}
-use Rattle.std.proofs.lemmas.List.{take-append-drop, drop_more, length-drop}
+use Rattle.std.proofs.lemmas.List.{map-append, reverse-append, length-map, length-reverse, take_more}
+use Rattle.std.proofs.lemmas.List.{take-append-drop, length-drop}
 use Rattle.pg_bytes.specs.ByteSets.{bytes}
 use Rattle.pg_bytes.specs.Sets.{Bytes}
 use Rattle.pg_bytes.specs.declared.byte_set.ByteSet.{ByteSet}
@@ -15,7 +15,7 @@ use Rattle.pg_literal.specs.Rows.{StandsAt, row_of}
 use Rattle.pg_literal.specs.Suffixes.{EndsWith, IsRow, IsSuffix, suffix_row}
 use Rattle.pg_literal.specs.declared.suffix.LineSuffix.{LineSuffix}
 use Rattle.pg_literal.proofs.LiteralLemmas.{alone_matched, in_one}
-use Rattle.pg_literal.proofs.RowLemmas.{stands_append, stands_within}
+use Rattle.pg_literal.proofs.RowLemmas.{stands_append}
 
 -- one more set, in front of a row
 row_more : (sets : List ByteSet) (set : ByteSet) → row_of (sets ++ set ∷ []) ≡ bytes set ∷ row_of sets

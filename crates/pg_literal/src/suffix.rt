@@ -10,7 +10,7 @@ use pg_bytes::ByteSet;
 use pg_pattern::{Bounds, Tree};
 use std::alloc::{AllocError, Allocator, Global};
 
-/// The only matches of an expression like `[.!?]"$`: one byte of each of some sets, behind which the line ends.
+/// What each match of an expression like `[.!?]"$` is: one byte of each of some sets, behind which the line ends.
 #[derive(Drop)]
 pub struct LineSuffix<A: Allocator = Global> {
     /// The sets, the last one first.
@@ -40,7 +40,7 @@ fn is_end<A: Allocator>(tree: &Tree<A>) -> bool
 /// The sets of a tree that matches one byte of each, the last one first; `None` for others.
 ///
 /// The left spine of the tree may be as long as a text, so a loop walks it.
-fn sets_of<A: Allocator + Copy>(
+fn row_sets<A: Allocator + Copy>(
     alloc: A,
     tree: &Tree<A>,
 ) -> Result<Option<Vec<ByteSet, A>>, AllocError>
@@ -63,7 +63,7 @@ fn sets_of<A: Allocator + Copy>(
 }
 
 /// The suffix of a tree that is sets one behind the other, and the end of a line behind them; `None` for others.
-fn suffix_of<A: Allocator + Copy>(
+fn tree_suffix<A: Allocator + Copy>(
     alloc: A,
     tree: &Tree<A>,
 ) -> Result<Option<LineSuffix<A>>, AllocError>
@@ -76,7 +76,7 @@ fn suffix_of<A: Allocator + Copy>(
     if !is_end(last) {
         return Ok(None);
     }
-    match sets_of(alloc, front)? {
+    match row_sets(alloc, front)? {
         Some(sets) => Ok(Some(LineSuffix { sets })),
         None => Ok(None),
     }
@@ -99,12 +99,12 @@ impl<A: Allocator> LineSuffix<A> {
             return Ok(None);
         }
         match bounds {
-            Bounds::Any => suffix_of(alloc, &trees[0]),
+            Bounds::Any => tree_suffix(alloc, &trees[0]),
             Bounds::Word | Bounds::Whole => Ok(None),
         }
     }
 
-    /// Where it begins in a line that ends with it.
+    /// Where it begins in a line that ends with it; `None` for other lines.
     pub fn find(&self, line: &[u8]) -> Option<usize>
         ensures { MatchOption result ((i : ℕ) → EndsWith line.now (suffix_row self.now) i → ⊥)
             (EndsWith line.now (suffix_row self.now)) }

@@ -8,5 +8,5 @@ returns-in-Any g c =
     let tree = c.index-trees-0.result in
     let one : map pattern c.args.trees.now ≡ pattern tree ∷ [] =
     ap (map pattern) (list_of_one c.args.trees.now tree c.if-trees-ne1.false c.index-trees-0.is) in
-    only_suffix c.suffix_of.result (map pattern c.args.trees.now) (pattern tree) c.args.bounds one c.in-Any.is
-    c.suffix_of.ensures
+    only_suffix c.tree_suffix.result (map pattern c.args.trees.now) (pattern tree) c.args.bounds one c.in-Any.is
+    c.tree_suffix.ensures

@@ -1,4 +1,4 @@
-use Rattle.std.proofs.Common.{◌≡◌, ◌∙◌, ◌+◌, ◌≤◌, IsTrue, ap, arith, length, not, refl, sym}
+use Rattle.std.proofs.Common.{◌∙◌, ◌+◌, ◌≤◌, IsTrue, ap, arith, length, not, refl, sym}
 use Rattle.std.specs.Prelude.{slice_index}
 use Rattle.std.specs.Result.{is_ok}
 use Rattle.std.proofs.lemmas.List.{get_or_read}

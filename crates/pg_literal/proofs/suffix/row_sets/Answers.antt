@@ -6,7 +6,7 @@ use Rattle.pg_pattern.proofs.PatternLemmas.{pattern-cat}
 use Rattle.pg_literal.specs.Rows.{row_of}
 use Rattle.pg_literal.specs.Suffixes.{IsRow}
 use Rattle.pg_literal.proofs.SuffixLemmas.{Leads, leads_first, leads_more, leads_last}
-use Rattle.pg_literal.proofs.suffix.sets_of.Goals as goal
+use Rattle.pg_literal.proofs.suffix.row_sets.Goals as goal
 
 pub loop-tree-init : goal.loop-tree-init
 loop-tree-init g c =

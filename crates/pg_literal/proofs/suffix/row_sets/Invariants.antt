@@ -1,6 +1,6 @@
 use Rattle.pg_pattern.specs.Trees.{pattern}
 use Rattle.pg_literal.proofs.SuffixLemmas.{Leads}
-use Rattle.pg_literal.proofs.suffix.sets_of.Given as goal
+use Rattle.pg_literal.proofs.suffix.row_sets.Given as goal
 
 -- the sets so far stand behind what is left of the tree
 abbrev pub invariant-loop-tree : goal.invariant-loop-tree
