@@ -1,21 +1,22 @@
 -- A text that each hit of a search begins with, and where it stands in a line.
-use Rattle.std.proofs.Common.{◌≡◌, ◌<◌, ◌≤◌, ◌+◌, ◌-◌, ℕ, zero, suc, Option, Some, None, IsTrue, List, [], ◌∷◌, length}
-use Rattle.std.proofs.Common.{get_or, take, drop, slice_range, refl, sym, ap, ◌∙◌, subst, arith}
+use Rattle.std.proofs.Common.{◌≡◌, ◌↔◌, ◌<◌, ◌≤◌, ◌+◌, ◌-◌, ℕ, zero, suc, Option, Some, None, IsTrue, List, []}
+use Rattle.std.proofs.Common.{◌∷◌, length, get_or, take, drop, slice_range, refl, sym, ap, ◌∙◌, subst, arith}
 use Rattle.std.specs.Option.{IfSome, MatchOption, is_some}
 use Rattle.std.specs.List.{All}
 use Rattle.std.proofs.lemmas.List.{drop-drop}
 use Rattle.memchr.specs.Find.{OccursAt, FindsNeedle}
 use Rattle.pg_pattern.specs.Tests.{has_hit}
 use Rattle.pg_lines.proofs.HitLemmas.{hit_found, hit_missed}
-use Rattle.pg_pattern.specs.Hits.{Hit, IsNext, HasNoNext}
+use Rattle.pg_pattern.specs.Hits.{Hit, HasHit, IsNext, HasNoNext}
 use Rattle.pg_literal.specs.Literals as P
 use Rattle.pg_literal.specs.Literals.{as_searched}
+use Rattle.pg_literal.specs.Rests.{IgnoresFront}
 use Rattle.pg_literal.specs.declared.literal.Literal.{Literal}
 use Rattle.pg_literal.proofs.FoldLemmas.{length_searched}
 use Rattle.pg_lines.specs.Literals.{TellHeads}
 use Rattle.pg_selection.specs.Search.{SearchText, Pattern, Bounds, AreTreesOf, bounds_of}
 use Rattle.pg_selection.proofs.TreeLemmas.{same_trees}
-use Rattle.pg_lines.specs.Strings.{IsHead, FindsPart}
+use Rattle.pg_lines.specs.Strings.{HitsIgnoreFront, IsHead, FindsPart}
 use Rattle.pg_lines.specs.declared.strings.NextString.TheVariants.{Nowhere, Behind}
 use Rattle.pg_lines.proofs.NeedleLemmas.{next_none, next_some}
 
@@ -101,12 +102,35 @@ module _ (trees : List Pattern) (bounds : Bounds) (line : List ℕ) (from place 
       sym (hit_missed trees bounds line (λ i j low hit. none_behind none i j (omega (arith, first)) hit))
   piece_tells (Some part) first next = sym (hit_found trees bounds line part.0 part.1 next.hit)
 
+-- the rest of a line tells of it, where no hit begins before that and none depends on what does
+pub rest_tells : (trees : List Pattern) (bounds : Bounds) (line : List ℕ) (place : ℕ) → place ≤ length line
+    → IgnoresFront trees bounds
+    → ((i j : ℕ) → 0 ≤ i → Hit trees bounds line i j → (place ≤ i) × (i < j))
+    → HasHit trees bounds (drop place line) ↔ HasHit trees bounds line
+rest_tells trees bounds line place within ignores behind = (
+  λ h. (place + h.0, place + h.1, (ignores line place h.0 h.1 within).1 h.2),
+  λ h.
+      let low = behind h.0 h.1 (omega arith) h.2 in
+      let i : h.0 ≡ place + (h.0 - place) = omega (arith, low.0) in
+      let j : h.1 ≡ place + (h.1 - place) = omega (arith, low.0, low.1) in
+      let there = subst (λ n. Hit trees bounds line n (place + (h.1 - place))) i
+      (subst (λ n. Hit trees bounds line h.0 n) j h.2) in
+      (h.0 - place, h.1 - place, (ignores line place (h.0 - place) (h.1 - place) within).0 there),
+)
+
 -- a part behind a place stands behind those before it
 pub within_behind : (from place len : ℕ) (found : Option (ℕ × ℕ)) → from ≤ place
     → IfSome found (λ part. (place ≤ part.0) × (part.0 < part.1) × (part.1 ≤ len))
     → IfSome found (λ part. (from ≤ part.0) × (part.0 < part.1) × (part.1 ≤ len))
 within_behind from place len None low within = tt
 within_behind from place len (Some part) low within = (omega (arith, within.0), within.1, within.2)
+
+-- what is known of the fronts of lines by a text's trees
+pub front_known : (text : SearchText) (trees : List Pattern) (bounds : Bounds) → AreTreesOf text trees
+    → bounds ≡ bounds_of text → IgnoresFront trees bounds → HitsIgnoreFront text
+front_known text trees bounds spelled same ignores trees' spelled' =
+    subst (λ ts. IgnoresFront ts (bounds_of text)) (same_trees text trees trees' spelled spelled')
+    (subst (IgnoresFront trees) same ignores)
 
 -- the literals of a text's patterns
 pub heads_are : {A : Type 0} (text : SearchText) (trees : List Pattern) → AreTreesOf text trees

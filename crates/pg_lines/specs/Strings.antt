@@ -7,6 +7,7 @@ use Rattle.memchr.specs.Find.{OccursAt}
 use Rattle.pg_pattern.specs.Bounds.{MayBegin, MayEnd}
 use Rattle.pg_pattern.specs.Hits.{Hit, IsNext}
 use Rattle.pg_literal.specs.Literals.{as_searched}
+use Rattle.pg_literal.specs.Rests.{IgnoresFront}
 use Rattle.pg_literal.specs.Suffixes.{IsSuffix, suffix_row}
 use Rattle.pg_literal.specs.declared.suffix.LineSuffix.{LineSuffix}
 use Rattle.pg_strings.specs.Outcomes.{strings_of}
@@ -75,6 +76,10 @@ abbrev pub IsHead : SearchText → List ℕ → Type 0
 IsHead text head =
     (trees : List Pattern) → AreTreesOf text trees → (line : List ℕ) (i j : ℕ) → Hit trees (bounds_of text) line i j
     → (i < j) × OccursAt (as_searched text.fold line) head i
+
+-- the hits of the search behind a place of a line are those of the rest of the line
+abbrev pub HitsIgnoreFront : SearchText → Type 0
+HitsIgnoreFront text = (trees : List Pattern) → AreTreesOf text trees → IgnoresFront trees (bounds_of text)
 
 -- the hits of the search are where the suffix stands at a line's end
 abbrev pub IsSuffixOf : {A : Type 0} → SearchText → LineSuffix A → Type 0

@@ -7,12 +7,12 @@ ghost use Rattle.pg_selection.specs.Search.{AreTreesOf, HasTrees, Fixed, pattern
 ghost use Rattle.pg_blocks.specs.Lines.{IsLine};
 ghost use Rattle.pg_literal.specs.Literals.{as_searched};
 ghost use Rattle.pg_lines.specs.Literals.{AreLiterals, TellHeads, data_of};
-ghost use Rattle.pg_lines.specs.Strings.{IsSetOf, IsSuffixOf};
+ghost use Rattle.pg_lines.specs.Strings.{HitsIgnoreFront, IsSetOf, IsSuffixOf};
 ghost use Rattle.pg_lines.specs.Queries.{IsCompiled, IsQueryFault};
 ghost use Rattle.pg_lines.specs.declared.query.QueryFault.TheVariants.{OutOfMemory};
 
 use crate::literal_set::{LiteralSet, few_of};
-use pg_literal::{LineSuffix, Literal};
+use pg_literal::{LineSuffix, Literal, looks_behind};
 use pg_match::{BuildFault, Machine};
 use pg_pattern::Tree;
 use pg_selection::{QueryText, Selector};
@@ -56,6 +56,8 @@ pub struct Query<A: Allocator = Global> {
     literal_set: Option<LiteralSet<A>>,
     /// The suffix that each match is, if there is one.
     suffix: Option<LineSuffix<A>>,
+    /// What stands before a place of a line doesn't matter to the matches behind it.
+    ignores_front: bool,
 }
 
 impl<A: Allocator> Drop for Query<A> {
@@ -66,15 +68,16 @@ impl<A: Allocator> Drop for Query<A> {
             literals: _,
             literal_set: _,
             suffix: _,
+            ignores_front: _,
         } = self;
     }
 }
 
 impl<A: Allocator> Model for Query<A> {
-    ghost use Rattle.std.specs.Prelude.{map, IfSome};
+    ghost use Rattle.std.specs.Prelude.{map, IfSome, IsTrue};
     ghost use Rattle.std.specs.Arc.{arc_value};
     ghost use Rattle.pg_lines.specs.Literals.{AreLiterals, TellHeads, data_of};
-    ghost use Rattle.pg_lines.specs.Strings.{IsSetOf, IsSuffixOf};
+    ghost use Rattle.pg_lines.specs.Strings.{HitsIgnoreFront, IsSetOf, IsSuffixOf};
     ghost use Rattle.pg_lines.specs.Queries.{Compiled, IsCompiled};
 
     ghost Value = { Compiled };
@@ -85,7 +88,8 @@ impl<A: Allocator> Model for Query<A> {
         × AreLiterals (arc_value q.selector) (map data_of q.literals.items)
         × TellHeads (arc_value q.selector) q.literals.items
         × IfSome q.literal_set (IsSetOf (arc_value q.selector))
-        × IfSome q.suffix (IsSuffixOf (arc_value q.selector)) };
+        × IfSome q.suffix (IsSuffixOf (arc_value q.selector))
+        × (IsTrue q.ignores_front → HitsIgnoreFront (arc_value q.selector)) };
 }
 
 impl<A: Allocator> Query<A> {
@@ -108,6 +112,7 @@ impl<A: Allocator> Query<A> {
         let literals = literals_of(alloc, &text, trees.as_slice())?;
         let literal_set = LiteralSet::of(alloc, &literals, is_fixed(&text), text.bounds())?;
         let suffix = suffix_of(alloc, &text, trees.as_slice())?;
+        let ignores_front = ignores_front(&text, trees.as_slice());
         let selector = selector_of(alloc, text)?;
         Ok(Query {
             selector,
@@ -115,6 +120,7 @@ impl<A: Allocator> Query<A> {
             literals: few_of(alloc, literals),
             literal_set,
             suffix,
+            ignores_front,
         })
     }
 
@@ -164,6 +170,13 @@ impl<A: Allocator> Query<A> {
         ensures { IfSome result (λ set. IsSetOf self.now.text set.now) }
     {
         self.literal_set.as_ref()
+    }
+
+    /// Whether the hits behind a place of a line are those of the rest of the line.
+    pub(crate) fn ignores_front(&self) -> bool
+        ensures { IsTrue result → HitsIgnoreFront self.now.text }
+    {
+        self.ignores_front
     }
 
     /// The suffix that each match is, if there is one: then it alone judges lines, and the machine isn't asked.
@@ -262,6 +275,15 @@ fn suffix_of<A: Allocator + Copy>(
     ensures { IfOk result (λ found. IfSome found (IsSuffixOf text.now)) }
 {
     LineSuffix::of(alloc, trees, text.bounds())
+}
+
+/// Whether what stands before a place of a line doesn't matter to the matches of a text's patterns behind it, whose
+/// trees these are.
+fn ignores_front<A: Allocator>(text: &QueryText<A>, trees: &[Tree<A>]) -> bool
+    requires trees { AreTreesOf text.now (map pattern trees.now) }
+    ensures { IsTrue result → HitsIgnoreFront text.now }
+{
+    !looks_behind(trees, text.bounds())
 }
 
 /// Whether no literal has the byte that ends a line.

@@ -6,12 +6,13 @@ ghost use Rattle.pg_literal.specs.Literals.{as_searched};
 ghost use Rattle.pg_match.specs.Lines.{IsTextAt};
 ghost use Rattle.pg_match.specs.Machines.{Fits};
 ghost use Rattle.pg_blocks.specs.Lines.{lines, AreShort};
-ghost use Rattle.pg_selection.specs.Search.{Pattern, AreTreesOf, search_of, terminator_of};
+ghost use Rattle.pg_selection.specs.Search.{Pattern, AreTreesOf, bounds_of, search_of, terminator_of};
 ghost use Rattle.pg_selection.specs.Selection.{has_hit};
 ghost use Rattle.pg_selection.specs.Searched.{IsFound};
 ghost use Rattle.pg_lines.specs.Queries.{IsCompiled};
 ghost use Rattle.pg_lines.specs.Literals.{AreLiterals, TellHeads, data_of};
-ghost use Rattle.pg_lines.specs.Strings.{AreBlockStrings, IsSetOf, JudgesLine};
+ghost use Rattle.pg_lines.specs.Strings.{AreBlockStrings, FindsPart, IsSetOf, JudgesLine};
+ghost use Rattle.pg_lines.specs.declared.strings.NextString.TheVariants.{Behind};
 ghost use Rattle.pg_lines.specs.Candidates.{AreNeedles, literals_sought};
 ghost use Rattle.pg_lines.specs.Finding.{CanSearch, HasNoNextHit, IsNextHit};
 
@@ -23,6 +24,7 @@ use crate::parts::push_line_parts;
 use crate::query::Query;
 use crate::runs::{push_run, run_between, with_line};
 use crate::strings::{BlockStrings, NextString, only_head};
+use memchr::memchr;
 use pg_blocks::{Block, Span, count_lines, line_end, text_of};
 use pg_literal::Literal;
 use pg_match::Scratch;
@@ -34,8 +36,34 @@ use std::sync::Arc;
 /// searched line by line.
 const PATIENCE: usize = 8;
 
+/// Lines of fewer bytes are read by the automaton as fast as a text is looked for in them.
+const SHORT: usize = 32;
+
 /// It takes as long to look at a line that holds a needle as to search so many bytes line by line.
 const FAR: usize = 128;
+
+/// Whether some span of a line is a hit, where none begins before a place, and none is empty.
+fn has_hit_behind<A: Allocator>(
+    query: &Query<A>,
+    scratch: &mut Scratch<A>,
+    line: &[u8],
+    place: usize,
+) -> bool
+    requires fits { Fits scratch.old query.now.machine }
+    requires short { length line.now ≤ 2 ^ 30 }
+    requires behind { (trees : List Pattern) → AreTreesOf query.now.text trees
+        → FindsPart trees (bounds_of query.now.text) line.now 0 (Behind place) }
+    ensures fits { Fits scratch.new query.now.machine }
+    ensures hit { (trees : List Pattern) → AreTreesOf query.now.text trees
+        → result ≡ has_hit (search_of query.now.text trees) line.now }
+{
+    let machine = query.machine();
+    if query.ignores_front() {
+        machine.selects(scratch, &line[place..])
+    } else {
+        machine.next_part(scratch, line, place).is_some()
+    }
+}
 
 /// Whether some span of a line that stands at a place in the block is a hit: by the query's strings, where it has such,
 /// else by its automaton.
@@ -56,9 +84,16 @@ fn has_hit<A: Allocator>(
     match strings.next_part(query, line, at, 0) {
         NextString::Found(_) => true,
         NextString::Nowhere => false,
-        NextString::Behind(place) => query.machine().next_part(scratch, line, place).is_some(),
+        NextString::Behind(place) => has_hit_behind(query, scratch, line, place),
         NextString::GaveUp => query.machine().selects(scratch, line),
     }
+}
+
+/// Whether a line is told by what the automaton remembers: where there is nothing else to ask, and where a text begins
+/// each match but the line is so short that to look for the text takes longer. The line begins some bytes.
+fn asks_automaton<A: Allocator>(strings: &BlockStrings<'_, A>, end: u8, bytes: &[u8]) -> bool {
+    let near = &bytes[..bytes.len().min(SHORT)];
+    strings.are_none() || strings.are_a_head() && memchr(end, near).is_some()
 }
 
 /// Where the text of a line ends that goes on up to a place, at most the count of bytes: at its terminator, or where
@@ -96,7 +131,7 @@ fn judge_line<A: Allocator>(
         → result.1 ≡ has_hit (search_of query.now.text trees) (slice_range bytes.now start result.0) }
 {
     let end = query.terminator();
-    if strings.are_none() {
+    if asks_automaton(strings, end, &bytes[start..]) {
         if let Some(line) = query.machine().recall_line(scratch, end, &bytes[start..]) {
             return (text_end(end, bytes, start + line.read), line.has_hit);
         }

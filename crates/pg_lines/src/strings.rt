@@ -152,8 +152,9 @@ fn next_suffix<A: Allocator>(suffix: &LineSuffix<A>, line: &[u8], from: usize) -
     })
 }
 
-/// The text that each match of a query begins with, if it has but this literal, and parts of lines are asked for. Where
-/// they aren't, a line is judged faster by the automaton alone, which needn't find where a match ends.
+/// The text that each match of a query begins with, if it has but this literal, and either parts of lines are asked for
+/// or the rest of a line tells whether it has a hit. Else a line is judged faster by the automaton alone, which needn't
+/// find where a match ends.
 pub(crate) fn only_head<'l, A: Allocator>(
     query: &Query<A>,
     literals: &'l [Literal<A>],
@@ -163,7 +164,8 @@ pub(crate) fn only_head<'l, A: Allocator>(
     ensures some { IfSome result (λ _. 0 < length literals.now) }
 {
     let options = query.text();
-    if !options.with_parts || options.invert || literals.len() != 1 || !literals[0].is_head {
+    let is_wanted = options.with_parts && !options.invert || query.ignores_front();
+    if !is_wanted || literals.len() != 1 || !literals[0].is_head {
         return None;
     }
     Some(Finder::new(&literals[0].text))
@@ -194,6 +196,11 @@ impl<'s, A: Allocator> BlockStrings<'s, A> {
         ensures { IsTrue result ↔ ((self.now.set ≡ None) × (self.now.head ≡ None) × (self.now.suffix ≡ None)) }
     {
         self.set.is_none() && self.head.is_none() && self.suffix.is_none()
+    }
+
+    /// Whether there is but a text that each match begins with.
+    pub fn are_a_head(&self) -> bool {
+        self.set.is_none() && self.suffix.is_none() && self.head.is_some()
     }
 
     /// Where the text next stands that each match begins with, from a place of the line on.

@@ -4,3 +4,4 @@ pub mod Known
 pub mod Added
 pub mod Inner
 pub mod Suffixes
+pub mod Rests

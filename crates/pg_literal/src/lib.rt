@@ -6,11 +6,13 @@
 #![tactic(auto)]
 
 mod cost;
+mod front;
 mod inner;
 mod known;
 mod literal;
 mod row;
 mod suffix;
 
+pub use front::looks_behind;
 pub use literal::Literal;
 pub use suffix::LineSuffix;

@@ -1,9 +1,8 @@
-use Rattle.std.proofs.Common.{refl, sym, ◌∙◌}
+use Rattle.std.proofs.Common.{sym}
 use Rattle.std.specs.Bool.{one_answer}
 use Rattle.pg_pattern.specs.Tests.{has_hit}
 use Rattle.pg_pattern.proofs.TestLemmas.{hits_decided}
 use Rattle.pg_selection.specs.Search.{bounds_of}
-use Rattle.pg_lines.proofs.HeadLemmas.{piece_tells}
 use Rattle.pg_lines.proofs.HitLemmas.{hit_found, hit_missed}
 use Rattle.pg_lines.proofs.PartLemmas.{machine_of}
 use Rattle.pg_lines.proofs.search.has_hit.Goals as goal
@@ -22,22 +21,8 @@ pub returns-in-GaveUp-clause-hit : goal.returns-in-GaveUp-clause-hit
 returns-in-GaveUp-clause-hit g c = λ trees spelled.
     let query = c.args.query.now in
     let line = c.args.line.now in
-    let m = c.machine-in-GaveUp.ensures in
+    let m = c.machine.ensures in
     one_answer c.selects.result (has_hit trees (bounds_of query.text) line)
     (c.selects.ensures.exact trees (bounds_of query.text)
-    (machine_of query c.machine-in-GaveUp.result.now m.machine m.compiled trees spelled))
-    (hits_decided trees (bounds_of query.text) line).whole_line
-
-pub returns-in-Behind-clause-hit : goal.returns-in-Behind-clause-hit
-returns-in-Behind-clause-hit g c = λ trees spelled.
-    let query = c.args.query.now in
-    let m = c.machine.ensures in
-    let behind = c.in-Behind.ensures trees spelled in
-    c.is_some.ensures ∙ piece_tells trees (bounds_of query.text) c.args.line.now 0 c.in-Behind.place behind.2
-    c.next_part-in-Behind.result refl (c.next_part-in-Behind.ensures.next trees (bounds_of query.text)
     (machine_of query c.machine.result.now m.machine m.compiled trees spelled))
-
-pub next_part-requires-in-Behind-clause-from_in : goal.next_part-requires-in-Behind-clause-from_in
-next_part-requires-in-Behind-clause-from_in g c =
-    let own = c.machine.ensures.compiled in
-    (c.in-Behind.ensures own.0 own.1).1
+    (hits_decided trees (bounds_of query.text) line).whole_line

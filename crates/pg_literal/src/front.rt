@@ -1,0 +1,53 @@
+//! Whether what stands before a place of a line matters to the matches behind it.
+ghost use Rattle.std.specs.Prelude.{◌≡◌, false, map};
+ghost use Rattle.pg_pattern.specs.Trees.{pattern};
+ghost use Rattle.pg_literal.specs.Rests.{HasNoBegin, IgnoresFront};
+
+use pg_pattern::{Bounds, Tree};
+use std::alloc::Allocator;
+
+/// Whether some part of a tree asks for the line's begin.
+///
+/// The left spine of the tree may be as long as a text, so a loop walks it.
+fn has_begin<A: Allocator>(tree: &Tree<A>) -> bool
+    ensures { result ≡ false → HasNoBegin (pattern tree.now) }
+{
+    let mut tree = tree;
+    loop {
+        match tree {
+            Tree::Empty | Tree::Set(_) | Tree::End => return false,
+            Tree::Begin => return true,
+            Tree::Cat(first, second) => {
+                if has_begin(second) {
+                    return true;
+                }
+                tree = first;
+            }
+            Tree::Alt(first, second) => {
+                if has_begin(second) {
+                    return true;
+                }
+                tree = first;
+            }
+            Tree::Rep(inner, _, _) => tree = inner,
+        }
+    }
+}
+
+/// Whether what stands before a span of a line may decide whether it is a hit of some trees: some tree has a `^`, or
+/// not any match counts. Else the hits behind a place are those of the rest of the line.
+pub fn looks_behind<A: Allocator>(trees: &[Tree<A>], bounds: Bounds) -> bool
+    ensures { result ≡ false → IgnoresFront (map pattern trees.now) bounds }
+{
+    match bounds {
+        Bounds::Any => {
+            for tree in trees {
+                if has_begin(tree) {
+                    return true;
+                }
+            }
+            false
+        }
+        Bounds::Word | Bounds::Whole => true,
+    }
+}
