@@ -180,7 +180,7 @@ def cases(folder, megabytes):
     write(folder / "log", texts.log(20))
     yield from split(LOG, "log")
     write(folder / "agents", texts.agents(20))
-    yield from split('-cE x86_64\\)"$\n-c "$\n-vc 64$\n-cE [0-9][)]"$', "agents")
+    yield from split('-cE x86_64\\)"$\n-c "$\n-vc 64$\n-cE [0-9][)]"$\n-cE HTTP/1[.]1".40[0-9].9', "agents")
     write(folder / "line", texts.one_line())
     yield from split('-oE "id":[0-9]+\n-cE "id":6[0-9]+99\n-oF 99', "line")
     write(folder / "binary", texts.binary(64))
