@@ -33,8 +33,8 @@ pub(crate) const DEAD: u32 = 2;
 pub(crate) const LOST: u32 = 3;
 
 /// Sets of states, and where each byte leads from them. A text may lead to more sets than there is room for. Then the
-/// table is begun anew, so that it has those that are met now. Memory is asked for as sets come; where it is refused
-/// there is no room for the next one.
+/// table is begun anew, so that it has those that are met now. Memory for all is asked for when the table is made, and
+/// written to as sets come.
 pub struct Cache<A: Allocator = Global> {
     /// For 256 times a row, plus a byte: 0 where nothing is known yet, `HIT`, `DEAD`, `LOST`, or 256 times the next
     /// row.
@@ -74,35 +74,41 @@ impl<A: Allocator> Drop for Cache<A> {
     }
 }
 
+/// The most state numbers of the sets of a table together.
+fn most_states(is_half: bool) -> usize
+    ensures { result ≤ 1048576 }
+{
+    if is_half { POOL / 2 } else { POOL }
+}
+
 impl<A: Allocator> Cache<A> {
-    /// A table without a set, for any automaton. It may have half of the state numbers, beside another one.
-    pub fn new(alloc: A, is_half: bool) -> Result<Cache<A>, AllocError>
+    /// A table without a set, with memory for those of an automaton with so many states. It may have half of the state
+    /// numbers, beside another one.
+    pub fn new(alloc: A, states: usize, is_half: bool) -> Result<Cache<A>, AllocError>
     where
         A: Copy,
         ensures { IfOk result (λ memory. IsBlank (remembered memory)) }
     {
-        let steps = vec![in alloc; 0u32; 256]?;
+        let mut steps = Vec::with_capacity(alloc, 256 * ROWS)?;
+        steps.resize(256, 0u32)?;
         let ends = vec![in alloc; None; ROWS]?;
         let fresh = vec![in alloc; false; ROWS]?;
+        let pool = Vec::with_capacity(
+            alloc,
+            states.saturating_mul(SETS).min(most_states(is_half)),
+        )?;
         let cuts = vec![in alloc; 0u32; ROWS + 1]?;
         Ok(Cache {
             steps,
             ends,
             fresh,
-            pool: Vec::new(alloc),
+            pool,
             cuts,
             count: 0,
             most: SETS,
             is_half,
             lost: 0,
         })
-    }
-
-    /// The most state numbers of its sets together.
-    fn most_states(&self) -> usize
-        ensures { result ≤ 1048576 }
-    {
-        if self.is_half { POOL / 2 } else { POOL }
     }
 
     /// Leaves the room of so many sets to another table.
@@ -192,7 +198,8 @@ impl<A: Allocator> Cache<A> {
         0
     }
 
-    /// Sees to memory for a row with the states of a set, if there is room for them. Else the table stays as it is.
+    /// Makes room for a row with the states of a set, if there may be so many. Else the table stays as it is. It asks for
+    /// no memory, since that is there.
     fn make_room(&mut self, set: &StateSet<A>) -> bool
         requires shape { IsShape (length set.now.marks.items) (remembered self.old) }
         ensures widened { IsTrue result → Widened (remembered self.old) (remembered self.new) }
@@ -200,7 +207,7 @@ impl<A: Allocator> Cache<A> {
         ensures full { result ≡ false → remembered self.new ≡ remembered self.old }
     {
         let start = self.cuts[self.count + 1] as usize;
-        if self.count == SETS || self.most_states().saturating_sub(start) < set.len {
+        if self.count == SETS || most_states(self.is_half).saturating_sub(start) < set.len {
             return false;
         }
         let steps = self.steps.len().max(256 * (self.count + 2));
@@ -231,7 +238,7 @@ impl<A: Allocator> Cache<A> {
         self.count += 1;
     }
 
-    /// Adds a row with the states of a set, fresh or not, if there is room, and memory for it.
+    /// Adds a row with the states of a set, fresh or not, if there is room.
     pub fn add(&mut self, set: &StateSet<A>, is_fresh: bool) -> bool
         requires shape { IsShape (length set.now.marks.items) (remembered self.old) }
         requires good { IsGood (members set.now) }

@@ -237,12 +237,12 @@ fn share<A: Allocator + Copy>(
     Ok(Machine { automaton })
 }
 
-/// A table without a set, if it is wanted and there is memory.
-fn table<A: Allocator + Copy>(alloc: A, is_wanted: bool) -> Option<Cache<A>>
+/// A table for automata with so many states, if it is wanted and there is memory.
+fn table<A: Allocator + Copy>(alloc: A, states: usize, is_wanted: bool) -> Option<Cache<A>>
     ensures { IfSome result (λ memory. IsBlank (remembered memory)) }
 {
     if is_wanted {
-        Cache::new(alloc, true).ok()
+        Cache::new(alloc, states, true).ok()
     } else {
         None
     }
@@ -292,8 +292,8 @@ impl<A: Allocator> Scratch<A> {
         let automaton = Arc::try_clone(&machine.automaton)?;
         let states: &Automaton<A> = &machine.automaton;
         let sets = StateSets::new(alloc, states.states.len())?;
-        let memory = Cache::new(alloc, with_parts).ok();
-        let anchored = table(alloc, with_parts);
+        let memory = Cache::new(alloc, states.states.len(), with_parts).ok();
+        let anchored = table(alloc, states.states.len(), with_parts);
         Ok(Scratch {
             automaton,
             sets,
