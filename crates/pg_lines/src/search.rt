@@ -42,7 +42,8 @@ const SHORT: usize = 32;
 /// It takes as long to look at a line that holds a needle as to search so many bytes line by line.
 const FAR: usize = 128;
 
-/// Whether some span of a line is a hit, where none begins before a place, and none is empty.
+/// Whether some span of a line is a hit, where none begins before a place, and none is empty. The line has at most 2^30
+/// bytes, and the scratch is of the query's machine.
 fn has_hit_behind<A: Allocator>(
     query: &Query<A>,
     scratch: &mut Scratch<A>,

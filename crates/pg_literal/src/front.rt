@@ -1,5 +1,6 @@
 //! Whether what stands before a place of a line matters to the matches behind it.
-ghost use Rattle.std.specs.Prelude.{◌≡◌, false, map};
+ghost use Rattle.std.specs.Prelude.{◌≡◌, ◌⊎◌, IsTrue, false, map};
+ghost use Rattle.std.specs.List.{All};
 ghost use Rattle.pg_pattern.specs.Trees.{pattern};
 ghost use Rattle.pg_literal.specs.Rests.{HasNoBegin, IgnoresFront};
 
@@ -34,20 +35,20 @@ fn has_begin<A: Allocator>(tree: &Tree<A>) -> bool
     }
 }
 
+/// Whether some part of some tree asks for the line's begin.
+fn some_has_begin<A: Allocator>(trees: &[Tree<A>]) -> bool
+    ensures { IsTrue result ⊎ All (λ tree. HasNoBegin (pattern tree)) trees.now }
+{
+    trees.iter().any(|tree| has_begin(tree))
+}
+
 /// Whether what stands before a span of a line may decide whether it is a hit of some trees: some tree has a `^`, or
 /// not any match counts. Else the hits behind a place are those of the rest of the line.
 pub fn looks_behind<A: Allocator>(trees: &[Tree<A>], bounds: Bounds) -> bool
     ensures { result ≡ false → IgnoresFront (map pattern trees.now) bounds }
 {
     match bounds {
-        Bounds::Any => {
-            for tree in trees {
-                if has_begin(tree) {
-                    return true;
-                }
-            }
-            false
-        }
+        Bounds::Any => some_has_begin(trees),
         Bounds::Word | Bounds::Whole => true,
     }
 }

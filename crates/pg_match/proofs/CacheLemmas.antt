@@ -170,6 +170,14 @@ pub resized : (n k m : ℕ) (is_ok : Bool) → IsTrue is_ok → m ≡ (if is_ok 
 resized n k m false ok e = absurd (true≢false (sym ok))
 resized n k m true ok e = e
 
+pub zeros : (xs : List ℕ) (n : ℕ) → xs ≡ replicate n 0 → (i : ℕ) → slice_index xs i ≡ 0
+zeros xs n e i = ap (λ v. slice_index v i) e ∙ at n i
+  where
+    at : (n i : ℕ) → slice_index (replicate n 0) i ≡ 0
+    at zero i = refl
+    at (suc n) zero = refl
+    at (suc n) (suc i) = at n i
+
 -- numbers are read as before where zeros were put behind them
 pub padded : (xs ys : List ℕ) (n k : ℕ) (is_ok : Bool) → IsTrue is_ok → length xs ≤ n
     → ys ≡ (if is_ok then take n xs ++ replicate k 0 else xs) → (i : ℕ) → slice_index ys i ≡ slice_index xs i
@@ -177,13 +185,8 @@ padded xs ys n k false ok le e i = absurd (true≢false (sym ok))
 padded xs ys n k true ok le e i =
     ap (λ v. slice_index v i) (e ∙ ap (λ v. v ++ replicate k 0) (take_all n xs le)) ∙ behind xs k i
   where
-    at : (k i : ℕ) → slice_index (replicate k 0) i ≡ 0
-    at zero i = refl
-    at (suc k) zero = refl
-    at (suc k) (suc i) = at k i
-
     behind : (xs : List ℕ) (k i : ℕ) → slice_index (xs ++ replicate k 0) i ≡ slice_index xs i
-    behind [] k i = at k i
+    behind [] k i = zeros _ k refl i
     behind (x ∷ xs) k zero = refl
     behind (x ∷ xs) k (suc i) = behind xs k i
 
@@ -629,14 +632,6 @@ product_fits p n size same short few =
 
 pub told_on : (u v w a b d : ℕ) → v + a ≡ u + b → w + b ≡ v + d → w + a ≡ u + d
 told_on u v w a b d first next = omega arith
-
-pub zeros : (xs : List ℕ) (n : ℕ) → xs ≡ replicate n 0 → (i : ℕ) → slice_index xs i ≡ 0
-zeros xs n e i = ap (λ v. slice_index v i) e ∙ at n i
-  where
-    at : (n i : ℕ) → slice_index (replicate n 0) i ≡ 0
-    at zero i = refl
-    at (suc n) zero = refl
-    at (suc n) (suc i) = at n i
 
 abbrev pub none : Option Bool
 none = None

@@ -44,6 +44,10 @@ remembered t = record {
   count = t.count;
 }
 
+-- a table may have as many sets and states as before, and has been left for as many bytes
+abbrev pub SameLimits : {A : Type 0} → Cache A → Cache A → Type 0
+SameLimits old new = (new.most ≡ old.most) × (new.is_half ≡ old.is_half) × (new.lost ≡ old.lost)
+
 -- what is remembered, if anything is, is true of the automaton
 abbrev pub Remembers : {A : Type 0} → Option (Cache A) → Nfa → Type 0
 Remembers None m = Unit {0}

@@ -5,7 +5,7 @@ ghost use Rattle.pg_match.specs.StateSets.{IsGood};
 ghost use Rattle.pg_match.specs.Steps.{Has};
 ghost use Rattle.pg_match.specs.Memories.{IsShape, IsMemoryOf, In, fresh_at, Same, Grown, Marked, MarkedEnd, IsBlank};
 ghost use Rattle.pg_match.specs.Memories.{HasRoom, Widened};
-ghost use Rattle.pg_match.specs.Views.{members, remembered};
+ghost use Rattle.pg_match.specs.Views.{members, remembered, SameLimits};
 
 use crate::sparse_set::StateSet;
 use std::alloc::{AllocError, Allocator, Global};
@@ -198,13 +198,14 @@ impl<A: Allocator> Cache<A> {
         0
     }
 
-    /// Makes room for a row with the states of a set, if there may be so many. Else the table stays as it is. It asks for
-    /// no memory, since that is there.
+    /// Makes room for a row with the states of a set, if there may be so many. Else the table stays as it is. Memory was
+    /// asked for when the table was made.
     fn make_room(&mut self, set: &StateSet<A>) -> bool
         requires shape { IsShape (length set.now.marks.items) (remembered self.old) }
         ensures widened { IsTrue result → Widened (remembered self.old) (remembered self.new) }
         ensures room { IsTrue result → HasRoom (remembered self.new) set.now.len }
         ensures full { result ≡ false → remembered self.new ≡ remembered self.old }
+        ensures limits { SameLimits self.old self.new }
     {
         let start = self.cuts[self.count + 1] as usize;
         if self.count == SETS || most_states(self.is_half).saturating_sub(start) < set.len {
@@ -221,13 +222,14 @@ impl<A: Allocator> Cache<A> {
         self.pool.resize(states, 0).is_ok()
     }
 
-    /// Writes the next row, with the states of a set, fresh or not.
+    /// Writes the next row, with the states of a set, fresh or not. Room was made for it.
     fn write(&mut self, set: &StateSet<A>, is_fresh: bool)
         requires shape { IsShape (length set.now.marks.items) (remembered self.old) }
         requires good { IsGood (members set.now) }
         requires room { HasRoom (remembered self.old) set.now.len }
-        ensures { Grown (length set.now.marks.items) (remembered self.old) (remembered self.new) (members set.now)
-            is_fresh }
+        ensures grown { Grown (length set.now.marks.items) (remembered self.old) (remembered self.new)
+            (members set.now) is_fresh }
+        ensures limits { SameLimits self.old self.new }
     {
         let start = self.cuts[self.count + 1] as usize;
         for k in 0..set.len {
@@ -246,6 +248,7 @@ impl<A: Allocator> Cache<A> {
             → Grown (length set.now.marks.items) (remembered self.old) (remembered self.new) (members set.now)
             is_fresh }
         ensures full { result ≡ false → remembered self.new ≡ remembered self.old }
+        ensures limits { SameLimits self.old self.new }
     {
         if self.count >= self.most || !self.make_room(set) {
             return false;
@@ -254,19 +257,21 @@ impl<A: Allocator> Cache<A> {
         true
     }
 
-    /// Writes where a byte leads from a row.
+    /// Writes where a byte leads from a row that the table has.
     pub fn mark(&mut self, row: usize, byte: u8, to: u32)
         requires { 256 * row + byte < length self.old.steps.items }
-        ensures { Marked (remembered self.old) (remembered self.new) (256 * row + byte) to }
+        ensures marked { Marked (remembered self.old) (remembered self.new) (256 * row + byte) to }
+        ensures limits { SameLimits self.old self.new }
     {
         self.steps[256 * row + byte as usize] = to;
     }
 
-    /// Writes the answer of a row at a line's end.
+    /// Writes the answer of a row, the 256th at most, at a line's end.
     pub fn mark_end(&mut self, row: usize, answer: bool)
         requires size { length self.old.ends.items ≡ 257 }
         requires row { row ≤ 256 }
-        ensures { MarkedEnd (remembered self.old) (remembered self.new) row answer }
+        ensures marked { MarkedEnd (remembered self.old) (remembered self.new) row answer }
+        ensures limits { SameLimits self.old self.new }
     {
         self.ends[row] = Some(answer);
     }

@@ -22,7 +22,7 @@ pub struct KnownLine {
     pub read: usize,
 }
 
-/// Where the text of the first line of some bytes ends, which goes on behind a place.
+/// Where the text of the first line of some bytes ends, which has the byte at a place.
 fn first_end(end: u8, bytes: &[u8], place: usize) -> usize
     requires within { place < length bytes.now }
     requires clear { (i : ℕ) → i ≤ place → slice_index bytes.now i ≡ end → ⊥ }

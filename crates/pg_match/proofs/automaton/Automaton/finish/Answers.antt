@@ -47,7 +47,7 @@ returns-in-Row-clause-memory g c =
     let k = c.in-Row.to / 256 in
     let learned = c.in-Row.ensures.learned in
     memory_marked_end m mid (remembered c.mark_end.new.self) k c.hits_at_end-answer.result c.in-Row.ensures.memory
-    c.mark_end.ensures
+    c.mark_end.ensures.marked
     learned.0.known (answers_same m false (Has u)
     (In mid k) c.hits_at_end-answer.result learned.3 c.hits_at_end-answer.ensures.answer)
 

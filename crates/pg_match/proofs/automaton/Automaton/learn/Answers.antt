@@ -14,7 +14,7 @@ returns-then-hits_before-clause-memory g c =
     let old = remembered c.args.memory.now in
     let r = c.args.row in
     let s = members c.load.new.set in
-    memory_marked m old (remembered c.mark.new.self) r c.args.byte 1 c.requires.memory c.mark.ensures c.requires.known
+    memory_marked m old (remembered c.mark.new.self) r c.args.byte 1 c.requires.memory c.mark.ensures.marked c.requires.known
     (omega arith)
     (inr (inl (
       refl,
@@ -45,7 +45,7 @@ returns-clause-memory g c =
     let more = c.keep-to.ensures.keeps.more in
     let known = c.requires.known in
     memory_marked m mid (remembered c.mark-2.new.self) c.args.row c.args.byte _ c.keep-to.ensures.memory
-    c.mark-2.ensures (omega arith) (omega arith)
+    c.mark-2.ensures.marked (omega arith) (omega arith)
     (told_row m old mid c.args.row c.args.byte k _ (members c.load.new.set)
     (members c.go-is_fresh.new.sets.current) refl some c.keep-to.ensures.known
     c.requires.known c.keep-to.ensures.keeps c.load.ensures.same
@@ -63,7 +63,7 @@ returns-clause-learned g c =
     let some : 1 ≤ k = omega (arith, c.if-to-eq0.false) in
     learned_row m old mid new c.args.row c.args.byte k _ (members c.load.new.set)
     (members c.go-is_fresh.new.sets.current) refl c.keep-to.ensures.known
-    (mark_keeps mid new _ _ c.mark-2.ensures) c.load.ensures.same
+    (mark_keeps mid new _ _ c.mark-2.ensures.marked) c.load.ensures.same
     (λ h. true≢false (sym (c.hits_before.ensures.1 h) ∙ c.if-hits_before.false)) c.go-is_fresh.ensures.goes
     (c.keep-to.ensures.same some)
 
@@ -120,7 +120,7 @@ returns-then-to-eq0-clause-memory g c =
     let mid = remembered c.keep-to.new.memory in
     let more = c.keep-to.ensures.keeps.more in
     memory_marked (nfa c.args.self.now) mid (remembered c.mark-then-to-eq0.new.self) c.args.row c.args.byte 3
-    c.keep-to.ensures.memory c.mark-then-to-eq0.ensures (omega arith) (omega arith)
+    c.keep-to.ensures.memory c.mark-then-to-eq0.ensures.marked (omega arith) (omega arith)
     (inl (omega arith, λ one. omega arith, λ two. omega arith))
 
 pub returns-then-to-eq0-clause-some : goal.returns-then-to-eq0-clause-some
@@ -179,7 +179,7 @@ returns-then-is_dead-clause-memory g c =
     let r = c.args.row in
     let s = Has (members c.load.new.set) in
     memory_marked m old (remembered c.mark-then-is_dead.new.self) r c.args.byte 2 c.requires.memory
-    c.mark-then-is_dead.ensures c.requires.known (omega arith)
+    c.mark-then-is_dead.ensures.marked c.requires.known (omega arith)
     (inr (inr (inl (
       refl,
       hopeless_there m c.args.byte s (In old r) c.load.ensures.same

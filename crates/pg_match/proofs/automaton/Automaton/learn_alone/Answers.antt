@@ -16,7 +16,7 @@ returns-then-sets-eq0-clause-memory g c =
     let u = members c.go_on.new.sets.current in
     let goes = gone_alone m.states c.args.self.now.seeds.items b S (Has u) c.go_on.ensures.goes in
     let none = read_by_none m b S u goes c.go_on.ensures.room.now c.if-sets-eq0.true in
-    alone_marked m old (remembered c.mark.new.self) r b 2 c.requires.memory c.mark.ensures c.requires.known
+    alone_marked m old (remembered c.mark.new.self) r b 2 c.requires.memory c.mark.ensures.marked c.requires.known
     (omega arith)
     (inr (inl (refl, none_same m b S (In old r) (same_back (In old r) S c.load.ensures.same) none)))
 
@@ -26,7 +26,7 @@ returns-then-to-eq0-clause-memory g c =
     let more = c.keep_alone-to.ensures.keeps.more in
     let known = c.requires.known in
     alone_marked (nfa c.args.self.now) mid (remembered c.mark-then-to-eq0.new.self) c.args.row c.args.byte 3
-    c.keep_alone-to.ensures.memory c.mark-then-to-eq0.ensures (omega arith) (omega arith)
+    c.keep_alone-to.ensures.memory c.mark-then-to-eq0.ensures.marked (omega arith) (omega arith)
     (inl (omega arith, λ one. omega arith, λ two. omega arith))
 
 pub returns-clause-memory : goal.returns-clause-memory
@@ -42,7 +42,7 @@ returns-clause-memory g c =
     let known = c.requires.known in
     let goes = gone_alone m.states c.args.self.now.seeds.items c.args.byte (Has s) (Has u) c.go_on.ensures.goes in
     alone_marked m mid (remembered c.mark-2.new.self) c.args.row c.args.byte _ c.keep_alone-to.ensures.memory
-    c.mark-2.ensures (omega arith) (omega arith)
+    c.mark-2.ensures.marked (omega arith) (omega arith)
     (told_alone m old mid c.args.row c.args.byte k _ s u refl some c.keep_alone-to.ensures.known c.requires.known
     c.keep_alone-to.ensures.keeps c.load.ensures.same goes (c.keep_alone-to.ensures.same some))
 
@@ -51,11 +51,11 @@ returns-then-to-eq0-clause-keeps g c =
     let mid = remembered c.keep_alone-to.new.memory in
     let new = remembered c.mark-then-to-eq0.new.self in
     keeps_on (remembered c.args.memory.now) mid new c.keep_alone-to.ensures.keeps
-    (mark_keeps mid new _ _ c.mark-then-to-eq0.ensures)
+    (mark_keeps mid new _ _ c.mark-then-to-eq0.ensures.marked)
 
 pub returns-clause-keeps : goal.returns-clause-keeps
 returns-clause-keeps g c =
     let mid = remembered c.keep_alone-to.new.memory in
     let new = remembered c.mark-2.new.self in
     keeps_on (remembered c.args.memory.now) mid new c.keep_alone-to.ensures.keeps
-    (mark_keeps mid new _ _ c.mark-2.ensures)
+    (mark_keeps mid new _ _ c.mark-2.ensures.marked)

@@ -17,7 +17,7 @@ returns-clause-memory g c =
     let r = c.args.row in
     let S = Has (members c.load.new.set) in
     alone_marked_end m old (remembered c.mark_end.new.self) r c.hits_at_end-answer.result c.requires.memory
-    c.mark_end.ensures c.requires.known
+    c.mark_end.ensures.marked c.requires.known
     (answers_same m false S (In old r) c.hits_at_end-answer.result (same_back (In old r) S c.load.ensures.same)
     c.hits_at_end-answer.ensures.answer)
 

@@ -1,8 +1,8 @@
 use Rattle.std.proofs.Common.{refl}
 use Rattle.pg_match.proofs.dfa_cache.Cache.mark.Goals as goal
 
-pub returns : goal.returns
-returns g c =
+pub returns-clause-marked : goal.returns-clause-marked
+returns-clause-marked g c =
     record {
       steps = refl;
       ends = refl;

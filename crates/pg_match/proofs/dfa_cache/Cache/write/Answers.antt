@@ -4,15 +4,15 @@ use Rattle.pg_match.proofs.CacheLemmas.{grown, Copying}
 use Rattle.pg_match.specs.Views.{members, remembered}
 use Rattle.pg_match.proofs.dfa_cache.Cache.write.Goals as goal
 
-pub returns : goal.returns
-returns g c =
+pub returns-clause-grown : goal.returns-clause-grown
+returns-clause-grown g c =
     let mem = remembered c.args.self.now in
     let s = members c.args.set.now in
     let shape = c.requires.shape in
     let start = get_or_read mem.cuts (mem.count + 1) c.index.result.now
     (omega (arith, shape.cuts_size, shape.few)) c.index.ensures 0 in
     let end : c.loop-k.k ≡ s.len = omega arith in
-    let copy = subst (λ v. Copying mem (remembered c.loop-k.self) s c.index.result.now v) end c.loop-k.invariant in
+    let copy = subst (λ v. Copying mem (remembered c.loop-k.self) s c.index.result.now v) end c.loop-k.invariant.copying in
     grown _ mem (remembered c.loop-k.self) _ s c.index.result.now c.args.is_fresh shape c.requires.good refl start
     c.requires.room copy refl refl refl refl refl refl
 
