@@ -1,8 +1,8 @@
 //! Literals of expressions.
 use crate::machine::bounds_of;
-use crate::rows::{Question, assert_rows, bytes_of, show_bytes};
-use pg_literal::Literal;
-use pg_pattern::Tree;
+use crate::rows::{Question, assert_rows, bytes_of, repeated, show_bytes};
+use pg_literal::{Literal, RowFinder, RowOutcome};
+use pg_pattern::{Bounds, Tree};
 use pg_syntax::parse_ere;
 use std::alloc::{AllocError, Global};
 
@@ -43,7 +43,7 @@ any . => none
 any %00%FF => only:%00%FF
 any (a(b(c)d)e) => only:abcde
 any (ab)(cd*) => only:abc
-any ((a|b)cd)+ => cd
+any ((a|b)cd)+ => only:acd;only:bcd
 any (x*ab)cd => only:abcd
 any a++++b => b
 any a{0}b => only:b
@@ -78,7 +78,7 @@ any [kK]ey => only:Key;only:key
 any foo;bar => only:foo;only:bar
 whole foo;bar => foo;bar
 word foo;bar => foo;bar",
-    r"any ^foo;b+ar;baz => foo;ar;only:baz
+    r"any ^foo;b+ar;baz => foo;bar;only:baz
 any foo;[0-9] => none
 any foo|x{0} => only:;only:foo
 any ;foo => only:;only:foo
@@ -104,8 +104,8 @@ any a[0-3][0-7]z.y;b;c;d;e;f;g;h;i => a0;a1;a2;a3;only:b;only:c;only:d;only:e;on
 any gr[ae]y;b;c;d;e;f;g;h;i => only:gray;only:grey;only:b;only:c;only:d;only:e;only:f;only:g;only:h;only:i
 whole [Ff]o;b;c;d;e;f;g;h;i => Fo;fo;b;c;d;e;f;g;h;i
 fold-any [Ff]o;b;c;d;e;f;g;h;i => only:fo;only:b;only:c;only:d;only:e;only:f;only:g;only:h;only:i
-fold-any [xY]o+z;b;c;d;e;f;g;h;i => xo;yo;only:b;only:c;only:d;only:e;only:f;only:g;only:h;only:i
-any w[01]+x;b;c;d;e;f;g;h;i => w0;w1;only:b;only:c;only:d;only:e;only:f;only:g;only:h;only:i
+fold-any [xY]o+z;b;c;d;e;f;g;h;i => oz;only:b;only:c;only:d;only:e;only:f;only:g;only:h;only:i
+any w[01]+x;b;c;d;e;f;g;h;i => 0x;1x;only:b;only:c;only:d;only:e;only:f;only:g;only:h;only:i
 word aa[0-3][0-7]zzz.y;b;c;d;e;f;g;h;i => 0zzz;1zzz;2zzz;3zzz;4zzz;5zzz;6zzz;7zzz;b;c;d;e;f;g;h;i
 any [a-z];b;c;d;e;f;g;h;i => none
 any .*[01];b;c;d;e;f;g;h;i => none",
@@ -149,6 +149,43 @@ any x(foo|bar);b;c;d;e;f;g;h;i => bar;foo;only:b;only:c;only:d;only:e;only:f;onl
 any x(foo|bar);a[0-9];zoo => bar;foo;only:a0;only:a1;only:a2;only:a3;only:a4;only:a5;only:a6;only:a7;only:a8;only:a9;only:zoo",
 ];
 
+/// `plain` or `fold`, an expression and a text in parts, and where the row stands in it that is looked for in place of
+/// the expression's literals.
+const ROWS: [&str; 2] = [
+    r"plain [A-Z]{3,} xAB:1 xABC:1 => 4
+plain [A-Z]{3,} xAB:1 xAB:1 xC:1 => nowhere
+plain [A-Z]{3,} ABC:1 => 0
+plain [A-Z]{3,} AB:1 => nowhere
+plain [^%20-~] x:80 %80:1 => 80
+plain [^%20-~] x:80 %0A:1 => nowhere
+plain [0-9]+[.][0-9]+ x:40 .x:1 x:40 1.7:1 => 82
+plain ([+]|-|[*]|/)= x:33 +=:1 => 33
+plain [A-Z]{2}[0-9] x:31 AB1:1 => 31
+plain [A-Z]{2}[0-9] x:29 AB1:1 x:40 => 29
+plain [A-Z]{2}[0-9] x:30 AB1:1 x:40 => 30
+plain [A-Z]{2}[0-9] x:31 AB1:1 x:40 => 31
+plain [A-Z]{2}[0-9] x:32 AB1:1 x:40 => 32
+plain [A-Z]{2}[0-9] x:63 AB1:1 x:40 => 63
+plain [A-Z]{2}[0-9] x:64 AB1:1 x:40 => 64
+fold [0-9][a-z][0-9] x:40 1B1:1 => 40
+plain [0-9]{4}-[0-9]{2} -:20 1234-x:1 x:40 1234-56:1 => 66
+plain [0-9]{4}-[0-9]{2} -:170 1234-56:1 => gave up
+plain [A-Z][A-Z][0-9] A:20 1:1 x:40 => 18
+plain [A-Z][A-Z][0-9] A:160 1:1 x:40 => 158
+plain [A-Z]{3}[0-9]{2} 12x:60 ABC12:1 => gave up",
+    r"plain [0-9] x:40 7:1 => 40
+plain [A-Z]+ x:40 => nowhere
+plain [a-z] x:1 => none
+plain [^0-9] x:1 => none
+plain [a-z]+ing x:1 => none
+plain (foo|bar)[0-9] x:1 => none
+plain [aeiou]{4} x:1 => none
+plain [^,]+, x:1 => none
+plain abc x:1 => none
+plain a|[A-Z]{3} x:1 => none
+plain ([A-Z]{3})? x:1 => none",
+];
+
 /// The trees of expressions, which `;` parts. One that has none is shown.
 fn trees_of(alloc: Global, text: &str, fold: bool, out: &mut String) -> Vec<Tree> {
     let mut trees = Vec::new(alloc);
@@ -190,6 +227,42 @@ fn show_all(literals: &[Literal], out: &mut String) {
         };
         let _ = out.push_str(mark);
         show_bytes(&literal.text, out);
+    }
+}
+
+/// Where the row of an expression stands in a text, if one is looked for.
+fn place_of(
+    alloc: Global,
+    trees: &[Tree],
+    fold: bool,
+    text: &[u8],
+) -> Result<Option<RowOutcome>, AllocError> {
+    let literals = Literal::of(alloc, trees, Bounds::Any, fold)?;
+    match RowFinder::of(alloc, trees, Bounds::Any, fold, b'\n', &literals)? {
+        Some(finder) => Ok(Some(finder.find(text, 0))),
+        None => Ok(None),
+    }
+}
+
+/// Shows where the row of an expression stands in a text.
+pub(crate) fn show_row(alloc: Global, kind: &str, asked: &str, out: &mut String) {
+    let (pattern, parts) = asked.split_once(' ').unwrap_or_default();
+    let fold = kind == "fold";
+    let trees = trees_of(alloc, pattern, fold, out);
+    let text = repeated(alloc, parts);
+    let _ = match place_of(alloc, &trees, fold, &text) {
+        Ok(Some(RowOutcome::Found(place))) => write!(out, "{place}"),
+        Ok(Some(RowOutcome::NotFound)) => write!(out, "nowhere"),
+        Ok(Some(RowOutcome::GaveUp)) => write!(out, "gave up"),
+        Ok(None) => write!(out, "none"),
+        Err(AllocError) => write!(out, "out of memory"),
+    };
+}
+
+#[test]
+fn rows_of_sets(rt: HostRuntime) {
+    for rows in ROWS.iter() {
+        assert_rows(&rt, rt.alloc(), Question::Row, rows);
     }
 }
 

@@ -44,6 +44,7 @@ pub(crate) enum Question {
     SameQueries,
     MayHit,
     Literal,
+    Row,
     Strings,
     Visits,
     DeepTree,
@@ -54,6 +55,7 @@ fn show_answer(alloc: Global, question: Question, kind: &str, asked: &str, out: 
     match question {
         Question::Blocks(way) => cutter::show_blocks(alloc, way, kind, asked, out),
         Question::Literal => literal::show_literals(alloc, kind, asked, out),
+        Question::Row => literal::show_row(alloc, kind, asked, out),
         Question::Strings => strings::show_places(alloc, kind, asked, out),
         Question::Visits => machine::show_search(alloc, kind, asked, out),
         Question::MayHit => lines::show_may(alloc, kind, asked, out),

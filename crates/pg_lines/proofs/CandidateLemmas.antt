@@ -13,14 +13,17 @@ use Rattle.pg_selection.specs.Selection.{selects}
 use Rattle.pg_selection.specs.Runs.{AllLines, IsNextRun}
 use Rattle.pg_lines.specs.Gathered.{IsNextLine}
 use Rattle.pg_lines.specs.Literals.{LiteralData, HoldsOne, AreLiterals}
-use Rattle.pg_lines.specs.Candidates.{AreWithout, IsFirstWith}
+use Rattle.pg_lines.specs.Candidates.{AreWithout, IsFirstWith, IsNextWith}
+use Rattle.pg_lines.specs.Finding.{IsFirstCandidate, IsNextCandidate}
 use Rattle.pg_lines.specs.declared.needle.Candidate.{Candidate}
+use Rattle.pg_lines.specs.declared.needle_set.NextLine.{NextLine}
+use Rattle.pg_lines.specs.declared.needle_set.NextLine.TheVariants.{Found, Nowhere, GaveUp}
 use Rattle.pg_blocks.specs.declared.span.Span.{Span}
 use Rattle.pg_lines.proofs.HitLemmas.{without_missed, held_hit}
 use Rattle.pg_blocks.proofs.LineLemmas.{lines-append, whole_append}
 use Rattle.pg_lines.proofs.RunLemmas.{line_found, line_unselected, line_passed, all_lines-append, all_back}
 
-all_more : (P Q : List ℕ → Type 0) (ls : List (List ℕ)) → ((l : List ℕ) → P l → Q l) → AllByRecursion P ls
+pub all_more : (P Q : List ℕ → Type 0) (ls : List (List ℕ)) → ((l : List ℕ) → P l → Q l) → AllByRecursion P ls
     → AllByRecursion Q ls
 all_more P Q [] more h = tt
 all_more P Q (l ∷ ls) more h = (more l h.0, all_more P Q ls more h.1)
@@ -32,9 +35,9 @@ nothing_behind (x ∷ xs) zero h = absurd (omega arith)
 nothing_behind (x ∷ xs) (suc n) h = nothing_behind xs n (omega arith)
 
 -- the text of the line that was found
-abbrev pub text_found : (fold : Bool) (end : ℕ) (literals : List LiteralData) (at : ℕ) (bytes : List ℕ)
-    (found : Candidate) → IsFirstWith fold end literals at bytes found → List ℕ
-text_found fold end literals at bytes found first = take (first.e - first.s) (drop first.s bytes)
+abbrev pub text_found : (text : SearchText) (at : ℕ) (bytes : List ℕ) (found : Candidate)
+    → IsFirstCandidate text at bytes found → List ℕ
+text_found text at bytes found first = take (first.e - first.s) (drop first.s bytes)
 
 -- whole lines behind a place, up to another one, of which none is selected
 pub record IsSkipped (q : Search) (at from : ℕ) (bytes : List ℕ) : Type 0 where
@@ -93,47 +96,67 @@ module _ (q : Search) (at from : ℕ) (bytes : List ℕ) (is : IsSkipped q at fr
       empty_text [] (y ∷ ys) zs e = absurd (omega (arith, ap length e))
       empty_text (x ∷ xs) ys zs e = absurd (omega (arith, ap length e))
 
-module _ (text : SearchText) (trees : List Pattern) (spelled : AreTreesOf text trees) (literals : List LiteralData)
-    (are : AreLiterals text literals) (any : 0 < length literals) where
+module _ (text : SearchText) (literals : List LiteralData) (are : AreLiterals text literals)
+    (any : 0 < length literals) where
+  -- lines without a literal have no hit
+  pub missed_without : (bytes : List ℕ) → AreWithout text.fold (terminator_of text) literals bytes
+      → (trees : List Pattern) → AreTreesOf text trees → AllLines (search_of (uninverted text) trees) false bytes
+  missed_without bytes none trees spelled =
+      let own = search_of (uninverted text) trees in
+      all_more (λ l. HoldsOne text.fold literals l → ⊥) (λ l. selects own l ≡ false) (lines (terminator_of text) bytes)
+      (λ l h. without_missed text trees spelled literals are l any h) none
+
+  -- the first line that holds one is the first that may have a hit
+  pub first_with : (at : ℕ) (bytes : List ℕ) (found : Candidate)
+      → IsFirstWith text.fold (terminator_of text) literals at bytes found → IsFirstCandidate text at bytes found
+  first_with at bytes found first =
+      let line = take (first.e - first.s) (drop first.s bytes) in
+      let P : Bool → Type 0 = λ b. Any (λ l. (l.is_enough ≡ b) × Holds text.fold line l.text) literals in
+      record {
+        s = first.s;
+        e = first.e;
+        stop = first.stop;
+        is = first.is;
+        front = first.front;
+        missed = missed_without (take first.s bytes) first.without;
+        enough = λ flag trees spelled. held_hit text trees spelled literals are line (subst P flag first.holds);
+        starts = first.starts;
+        ends = first.ends;
+      }
+
+  -- the same of the first one from a place on, if there is one
+  pub next_with : (at : ℕ) (bytes : List ℕ) (next : NextLine)
+      → IsNextWith text.fold (terminator_of text) literals at bytes next → IsNextCandidate text at bytes next
+  next_with at bytes (Found found) h = (h.0, h.1, h.2, first_with at (drop at bytes) found h.3)
+  next_with at bytes Nowhere h = missed_without (drop at bytes) h
+  next_with at bytes GaveUp h = tt
+
+module _ (text : SearchText) (trees : List Pattern) (spelled : AreTreesOf text trees) where
   abbrev own : Search
   own = search_of (uninverted text) trees
 
-  abbrev end_of : ℕ
-  end_of = terminator_of text
-
-  -- lines without a literal have no hit
-  pub missed_without : (bytes : List ℕ) → AreWithout text.fold end_of literals bytes → AllLines own false bytes
-  missed_without bytes none =
-      all_more (λ l. HoldsOne text.fold literals l → ⊥) (λ l. selects own l ≡ false) (lines end_of bytes)
-      (λ l h. without_missed text trees spelled literals are l any h) none
-
-  module _ (at : ℕ) (bytes : List ℕ) (found : Candidate)
-      (first : IsFirstWith text.fold end_of literals at bytes found) where
-    -- the first line that holds one is the first one with a hit, where it has one
-    pub first_selected : selects own (text_found text.fold end_of literals at bytes found first) ≡ true
-        → IsNextLine own at bytes found.line
+  module _ (at : ℕ) (bytes : List ℕ) (found : Candidate) (first : IsFirstCandidate text at bytes found) where
+    -- the first line that may have a hit is the first one with a hit, where it has one
+    pub first_selected : selects own (text_found text at bytes found first) ≡ true → IsNextLine own at bytes found.line
     first_selected chosen =
         line_found own bytes at first.s first.e first.stop found.line first.is first.front
-        (missed_without (take first.s bytes) first.without) chosen first.starts first.ends
+        (first.missed trees spelled) chosen first.starts first.ends
 
     -- one that is enough decides
     pub first_enough : found.is_enough ≡ true → IsNextLine own at bytes found.line
-    first_enough flag =
-        let line = text_found text.fold end_of literals at bytes found first in
-        let P : Bool → Type 0 = λ b. Any (λ l. (l.is_enough ≡ b) × Holds text.fold line l.text) literals in
-        first_selected (held_hit text trees spelled literals are line (subst P flag first.holds))
+    first_enough flag = first_selected (first.enough flag trees spelled)
 
     -- else no line up to its end has one
-    first_unselected : selects own (text_found text.fold end_of literals at bytes found first) ≡ false
+    first_unselected : selects own (text_found text at bytes found first) ≡ false
         → AllLines own false (take first.stop bytes)
     first_unselected not_chosen =
-        line_unselected own bytes first.s first.e first.stop first.is first.front
-        (missed_without (take first.s bytes) first.without) not_chosen
+        line_unselected own bytes first.s first.e first.stop first.is first.front (first.missed trees spelled)
+        not_chosen
 
-  -- one more line with a literal has no hit
+  -- one more line that might have a hit has none
   pub skipped_more : (at from : ℕ) (bytes : List ℕ) (found : Candidate) → IsSkipped own at from bytes
-      → (first : IsFirstWith text.fold end_of literals from (drop from bytes) found)
-      → selects own (text_found text.fold end_of literals from (drop from bytes) found first) ≡ false
+      → (first : IsFirstCandidate text from (drop from bytes) found)
+      → selects own (text_found text from (drop from bytes) found first) ≡ false
       → IsSkipped own at found.line.end bytes
   skipped_more at from bytes found is first not_chosen =
       let q = search_of (uninverted text) trees in
@@ -162,7 +185,7 @@ module _ (text : SearchText) (trees : List Pattern) (spelled : AreTreesOf text t
       }
     where
       stop_within : {from' : ℕ} {xs : List ℕ} {found' : Candidate}
-          (f : IsFirstWith text.fold end_of literals from' xs found')
+          (f : IsFirstCandidate text from' xs found')
           → f.stop ≤ length xs
       stop_within {from'} {xs} {found'} f =
           let all = ap length f.is.joins in
@@ -176,7 +199,7 @@ module _ (text : SearchText) (trees : List Pattern) (spelled : AreTreesOf text t
           )
 
       none_left : {from' : ℕ} {xs : List ℕ} {found' : Candidate}
-          (f : IsFirstWith text.fold end_of literals from' xs found')
+          (f : IsFirstCandidate text from' xs found')
           → xs ≡ [] → f.is.text ≡ []
       none_left {from'} {xs} {found'} f e =
           let all = ap length f.is.joins in
@@ -192,8 +215,11 @@ module _ (text : SearchText) (trees : List Pattern) (spelled : AreTreesOf text t
           no_bytes [] h = refl
           no_bytes (y ∷ ys) h = absurd (omega arith)
 
-module _ (fold : Bool) (E : ℕ) (literals : List LiteralData) (at : ℕ) (bytes : List ℕ) (found : Candidate)
-    (first : IsFirstWith fold E literals at (drop at bytes) found) where
+module _ (text : SearchText) (at : ℕ) (bytes : List ℕ) (found : Candidate)
+    (first : IsFirstCandidate text at (drop at bytes) found) where
+  abbrev E : ℕ
+  E = terminator_of text
+
   abbrev rest : List ℕ
   rest = drop at bytes
 
@@ -213,7 +239,7 @@ module _ (fold : Bool) (E : ℕ) (literals : List LiteralData) (at : ℕ) (bytes
 
   -- the line isn't too long where no line is, nor are those behind it
   pub first_short : AreShort E rest
-      → (length (text_found fold E literals at rest found first) ≤ 2 ^ 30) × AreShort E (drop found.line.end bytes)
+      → (length (text_found text at rest found first) ≤ 2 ^ 30) × AreShort E (drop found.line.end bytes)
   first_short short =
       let is = first.is in
       let Short : List ℕ → Type 0 = λ l. length l ≤ 2 ^ 30 in
@@ -231,7 +257,7 @@ module _ (fold : Bool) (E : ℕ) (literals : List LiteralData) (at : ℕ) (bytes
 
   -- the line among the bytes
   pub first_line : lines E (slice_range bytes found.line.start found.line.end)
-      ≡ text_found fold E literals at rest found first ∷ []
+      ≡ text_found text at rest found first ∷ []
   first_line =
       let is = first.is in
       let len : found.line.end - found.line.start ≡ length is.text = omega (arith, first.starts, first.ends, is.len) in
@@ -246,12 +272,11 @@ module _ (fold : Bool) (E : ℕ) (literals : List LiteralData) (at : ℕ) (bytes
       ap (lines E) slice ∙ is.one
 
 -- the line that was found, and what was cut out as its text
-pub found_text : (fold : Bool) (E : ℕ) (literals : List LiteralData) (at : ℕ) (bytes : List ℕ) (found : Candidate)
-    (end : ℕ) (cut : List ℕ) → end ≡ E → (first : IsFirstWith fold E literals at (drop at bytes) found)
-    → ((text : List ℕ) → lines end (slice_range bytes found.line.start found.line.end) ≡ text ∷ [] → cut ≡ text)
-    → cut ≡ text_found fold E literals at (drop at bytes) found first
-found_text fold E literals at bytes found end cut same first text =
-    let P : ℕ → Type 0 = λ t. (text : List ℕ) → lines t (slice_range bytes found.line.start found.line.end) ≡ text ∷ []
-    → cut ≡ text in
-    subst P same text (text_found fold E literals at (drop at bytes) found first)
-    (first_line fold E literals at bytes found first)
+pub found_text : (text : SearchText) (at : ℕ) (bytes : List ℕ) (found : Candidate) (end : ℕ) (cut : List ℕ)
+    → end ≡ terminator_of text → (first : IsFirstCandidate text at (drop at bytes) found)
+    → ((line : List ℕ) → lines end (slice_range bytes found.line.start found.line.end) ≡ line ∷ [] → cut ≡ line)
+    → cut ≡ text_found text at (drop at bytes) found first
+found_text text at bytes found end cut same first line =
+    let P : ℕ → Type 0 = λ t. (line : List ℕ) → lines t (slice_range bytes found.line.start found.line.end) ≡ line ∷ []
+    → cut ≡ line in
+    subst P same line (text_found text at (drop at bytes) found first) (first_line text at bytes found first)

@@ -8,6 +8,7 @@ pub mod JudgeLemmas
 pub mod LiteralLemmas
 pub mod MayLemmas
 pub mod NeedleLemmas
+pub mod NeedleRowLemmas
 pub mod NeedleSetLemmas
 pub mod SoughtLemmas
 pub mod StringLemmas

@@ -38,10 +38,10 @@ module _ (text : SearchText) (bytes searched : List ℕ) (is : searched ≡ as_s
       let all = map (data_of {A = A}) literals in
       let Absent : LiteralData → Type 0 = λ l. (place : ℕ) → OccursAt searched l.text place → ⊥ in
       let absent : All Absent all = All-map Absent data_of literals none in
-      missed_without text trees spelled all are some bytes
+      missed_without text all are some bytes
       (without_each text.fold all (lines (terminator_of text) bytes) (λ l among.
       nowhere_lines text.fold (terminator_of text) l.text bytes (λ place o.
-      All-contains Absent all l absent among place (subst (λ xs. OccursAt xs l.text place) (sym is) o))))
+      All-contains Absent all l absent among place (subst (λ xs. OccursAt xs l.text place) (sym is) o)))) trees spelled
 
   -- none of many
   pub many_missed : {A : Type 0} (set : LiteralSet A) → IsSetOf text set → 0 < length searched
@@ -51,6 +51,6 @@ module _ (text : SearchText) (bytes searched : List ℕ) (is : searched ≡ as_s
       let are = known.0 in
       let in_set = set.some in
       let size = length-map (strings_of set.strings) (flagged set.is_enough) in
-      missed_without text trees spelled (set_literals set) are (omega (arith, in_set, size)) bytes
+      missed_without text (set_literals set) are (omega (arith, in_set, size)) bytes
       (nowhere_behind text.fold bytes searched 0 (strings_of set.strings) set.is_enough is
-      (omega (arith, some, ap length is, length_searched text.fold bytes)) (terminator_of text) none)
+      (omega (arith, some, ap length is, length_searched text.fold bytes)) (terminator_of text) none) trees spelled

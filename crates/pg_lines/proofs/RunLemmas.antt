@@ -24,7 +24,7 @@ use Rattle.pg_selection.proofs.RunLemmas.{lines_apart}
 use Rattle.pg_blocks.specs.declared.span.Span.{Span}
 use Rattle.pg_blocks.proofs.LineLemmas.{made, around, lines-line, lines-alone, lines-append, whole_append}
 
-all_by_index : (P : List ℕ → Type 0) (ls : List (List ℕ)) → ((k : ℕ) → k < length ls → P (get_or ls k []))
+pub all_by_index : (P : List ℕ → Type 0) (ls : List (List ℕ)) → ((k : ℕ) → k < length ls → P (get_or ls k []))
     → AllByRecursion P ls
 all_by_index P [] h = tt
 all_by_index P (l ∷ ls) h = (h zero (omega arith), all_by_index P ls (λ k below. h (suc k) (omega arith)))

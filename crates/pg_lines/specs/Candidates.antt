@@ -6,14 +6,14 @@ use Rattle.memchr.specs.Find.{OccursAt}
 use Rattle.pg_literal.specs.Literals.{Holds, as_searched}
 use Rattle.pg_blocks.specs.Lines.{lines, AreWhole}
 use Rattle.pg_selection.specs.Search.{SearchText}
-use Rattle.pg_lines.specs.Literals.{LiteralData, HoldsOne, AreLiterals, set_literals}
+use Rattle.pg_lines.specs.Literals.{LiteralData, HoldsOne, AreLiterals, IsRowOf, set_literals}
 use Rattle.pg_lines.specs.declared.needle.Needle.{Needle}
 use Rattle.pg_lines.specs.declared.needle.NeedleList.{NeedleList}
 use Rattle.pg_lines.specs.declared.needle_set.NeedleSet.{NeedleSet}
 use Rattle.pg_lines.specs.declared.needle_set.NextLine.{NextLine}
 use Rattle.pg_lines.specs.declared.needle_set.NextLine.TheVariants.{Found, Nowhere, GaveUp}
 use Rattle.pg_lines.specs.declared.needles.Needles.{Needles}
-use Rattle.pg_lines.specs.declared.needles.Needles.TheVariants.{Few, Many, GivenUp, TooSlow}
+use Rattle.pg_lines.specs.declared.needles.Needles.TheVariants.{Few, Many, Row, GivenUp, TooSlow}
 use Rattle.pg_lines.specs.declared.needle.Place.{Place}
 use Rattle.pg_lines.specs.declared.needle.Candidate.{Candidate}
 
@@ -75,24 +75,26 @@ pub record IsNeedleSet {A : Type 0} (text : SearchText) (bytes : List ℕ) (set 
   pub literals : AreLiterals text (set_literals set.literals.now)
   pub searched : set.searched.now ≡ as_searched text.fold bytes
 
--- the same of either; nothing is said where they were given up
+-- the same of either, or of a row; nothing is said where they were given up
 abbrev pub AreNeedles : {A : Type 0} → SearchText → List ℕ → ℕ → Needles A → Type 0
 AreNeedles text bytes at (Few list) = IsNeedleList text bytes at list
 AreNeedles text bytes at (Many set) = IsNeedleSet text bytes set
+AreNeedles text bytes at (Row row) = IsRowOf text row.finder.now
 AreNeedles text bytes at GivenUp = Unit {0}
 AreNeedles text bytes at TooSlow = Unit {0}
 
--- the literals that are looked for
-abbrev pub literals_sought : {A : Type 0} → Needles A → List LiteralData
-literals_sought (Few list) = map literal_of list.needles.items
-literals_sought (Many set) = set_literals set.literals.now
-literals_sought GivenUp = []
-literals_sought TooSlow = []
+-- they aren't a list of none
+abbrev pub AreSome : {A : Type 0} → Needles A → Type 0
+AreSome (Few list) = 0 < length list.needles.items
+AreSome (Many set) = Unit {0}
+AreSome (Row row) = Unit {0}
+AreSome GivenUp = Unit {0}
+AreSome TooSlow = Unit {0}
 
 -- the first line that holds a literal, in bytes from a place on, if there is one and the search wasn't given up
-abbrev pub IsNextCandidate : Bool → ℕ → List LiteralData → ℕ → List ℕ → NextLine → Type 0
-IsNextCandidate fold end literals at bytes (Found found) =
+abbrev pub IsNextWith : Bool → ℕ → List LiteralData → ℕ → List ℕ → NextLine → Type 0
+IsNextWith fold end literals at bytes (Found found) =
     (at ≤ found.line.start) × (found.line.start < found.line.end) × (found.line.end ≤ length bytes)
     × IsFirstWith fold end literals at (drop at bytes) found
-IsNextCandidate fold end literals at bytes Nowhere = AreWithout fold end literals (drop at bytes)
-IsNextCandidate fold end literals at bytes GaveUp = Unit {0}
+IsNextWith fold end literals at bytes Nowhere = AreWithout fold end literals (drop at bytes)
+IsNextWith fold end literals at bytes GaveUp = Unit {0}

@@ -1,9 +1,11 @@
 -- What texts tell of the lines in which a search has a hit.
-use Rattle.std.specs.Prelude.{◌<◌, List, ℕ, Bool, IsTrue, length, map}
+use Rattle.std.specs.Prelude.{◌≡◌, ◌<◌, List, ℕ, Bool, true, IsTrue, length, map}
 use Rattle.std.specs.List.{All, Any}
 use Rattle.pg_literal.specs.Literals.{Holds}
 use Rattle.pg_literal.specs.Literals as P
+use Rattle.pg_literal.specs.Rows.{StandsAt, row_along}
 use Rattle.pg_literal.specs.declared.literal.Literal.{Literal}
+use Rattle.pg_literal.specs.declared.row_finder.RowFinder.{RowFinder}
 use Rattle.pg_strings.specs.Outcomes.{strings_of}
 use Rattle.pg_lines.specs.declared.literal_set.LiteralSet.{LiteralSet}
 use Rattle.pg_blocks.specs.Lines.{IsLine}
@@ -50,3 +52,17 @@ abbrev pub TellHeads : {A : Type 0} → SearchText → List (Literal A) → Type
 TellHeads text literals =
     0 < length literals → All (λ literal. IsTrue literal.is_head) literals → (trees : List Pattern)
     → AreTreesOf text trees → P.AreHeads text.fold trees (bounds_of text) literals
+
+-- the sets of a finder, one behind the other
+abbrev pub finder_row : {A : Type 0} → RowFinder A → List (ℕ → Bool)
+finder_row finder = row_along finder.sets.items
+
+-- A row that isn't empty and has no terminator. It stands in each line with a hit, and its flag says truly whether each
+-- line in which it stands has one.
+pub record IsRowOf {A : Type 0} (text : SearchText) (finder : RowFinder A) : Type 0 where
+  pub some : 0 < length (finder_row finder)
+  pub within : All (λ set. set (terminator_of text) ≡ true → ⊥) (finder_row finder)
+  pub needed : (trees : List Pattern) → AreTreesOf text trees → (line : List ℕ) → IsLine (terminator_of text) line
+      → HasHit (search_of text trees) line → (i : ℕ) × StandsAt line (finder_row finder) i
+  pub enough : IsTrue finder.is_enough → (trees : List Pattern) → AreTreesOf text trees → (line : List ℕ) (i : ℕ)
+      → StandsAt line (finder_row finder) i → HasHit (search_of text trees) line

@@ -9,6 +9,7 @@ mod every_line;
 mod literal_set;
 mod may;
 mod needle;
+mod needle_row;
 mod needle_set;
 mod needles;
 mod parts;

@@ -2,7 +2,7 @@
 ghost use Rattle.std.specs.Prelude.{◌≡◌, ◌≤◌, length, drop};
 ghost use Rattle.pg_selection.specs.Search.{terminator_of};
 ghost use Rattle.pg_lines.specs.Literals.{set_literals};
-ghost use Rattle.pg_lines.specs.Candidates.{IsNeedleSet, IsNextCandidate};
+ghost use Rattle.pg_lines.specs.Candidates.{IsNeedleSet, IsNextWith};
 
 use crate::literal_set::LiteralSet;
 use crate::needle::Candidate;
@@ -60,7 +60,7 @@ impl<'n, A: Allocator> NeedleSet<'n, A> {
         requires needles { IsNeedleSet query.now.text bytes.now self.old }
         ensures literals { self.new.literals ≡ self.old.literals }
         ensures searched { self.new.searched ≡ self.old.searched }
-        ensures next { IsNextCandidate query.now.text.fold (terminator_of query.now.text)
+        ensures next { IsNextWith query.now.text.fold (terminator_of query.now.text)
             (set_literals self.old.literals.now) at bytes.now result }
     {
         let rest = &bytes[at..];

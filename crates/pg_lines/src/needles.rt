@@ -1,24 +1,32 @@
-//! The literals of a query, as they are looked for in a block.
+//! What lines with a hit hold, as it is looked for in a block.
 ghost use Rattle.std.specs.Prelude.{◌≡◌, ◌<◌, ◌≤◌, ℕ, List, length, map, false, IfOk, IfSome};
 ghost use Rattle.pg_literal.specs.Literals.{as_searched};
-ghost use Rattle.pg_selection.specs.Search.{SearchText, terminator_of};
-ghost use Rattle.pg_lines.specs.Literals.{AreLiterals, data_of, set_literals};
-ghost use Rattle.pg_lines.specs.Candidates.{AreNeedles, literals_sought, IsNextCandidate};
+ghost use Rattle.pg_selection.specs.Search.{SearchText};
+ghost use Rattle.pg_lines.specs.Literals.{AreLiterals, IsRowOf, data_of, set_literals};
+ghost use Rattle.pg_lines.specs.Candidates.{AreNeedles, AreSome};
+ghost use Rattle.pg_lines.specs.Finding.{IsNextCandidate};
 
 use crate::literal_set::LiteralSet;
 use crate::needle::NeedleList;
+use crate::needle_row::NeedleRow;
 use crate::needle_set::{NeedleSet, NextLine};
 use crate::query::Query;
-use pg_literal::Literal;
+use pg_literal::{Literal, RowFinder};
 use std::alloc::{AllocError, Allocator};
 
-/// The literals of a query, as they are looked for in a block: a few one by one, many together, or none any more.
+/// It takes as long to look at a line that holds a needle as to search so many bytes line by line.
+pub(crate) const FAR: usize = 128;
+
+/// What lines with a hit hold, as it is looked for in a block: a few literals one by one, many together, a row of sets,
+/// or nothing any more.
 pub(crate) enum Needles<'n, A: Allocator> {
     Few(NeedleList<'n, A>),
     Many(NeedleSet<'n, A>),
+    Row(NeedleRow<'n, A>),
     /// They stand in too many lines in vain.
     GivenUp,
-    /// To compare them with the text takes too long, in single lines as in the block.
+    /// To compare them with the text takes too long, in single lines as in the block, or the row stands in too many
+    /// lines.
     TooSlow,
 }
 
@@ -27,6 +35,7 @@ impl<'n, A: Allocator> Drop for Needles<'n, A> {
         match self {
             Needles::Few(_) => {}
             Needles::Many(_) => {}
+            Needles::Row(_) => {}
             Needles::GivenUp => {}
             Needles::TooSlow => {}
         }
@@ -34,35 +43,41 @@ impl<'n, A: Allocator> Drop for Needles<'n, A> {
 }
 
 impl<'n, A: Allocator> Needles<'n, A> {
-    /// The needles of a set of literals, if there is one, else of a few literals.
+    /// The needles of a set of literals, if there is one, else a row, if there is one, else the needles of a few
+    /// literals.
     pub fn new(
         alloc: A,
         literals: &'n [Literal<A>],
         set: Option<&'n LiteralSet<A>>,
+        row: Option<&'n RowFinder<A>>,
         searched: &'n [u8],
     ) -> Result<Needles<'n, A>, AllocError>
         ensures { (text : SearchText) → (bytes : List ℕ) → AreLiterals text (map data_of literals.now)
             → IfSome set.entry (λ set. AreLiterals text (set_literals set.now))
+            → IfSome row.entry (λ row. IsRowOf text row.now)
             → (0 < length literals.now → searched.now ≡ as_searched text.fold bytes)
             → IfSome set.entry (λ _. searched.now ≡ as_searched text.fold bytes)
             → IfOk result (AreNeedles text bytes 0) }
     {
         match set {
             Some(set) => Ok(Needles::Many(NeedleSet::new(set, searched))),
-            None => {
-                let list = NeedleList::new(alloc, literals, searched)?;
-                Ok(Needles::Few(list))
-            }
+            None => match row {
+                Some(row) => Ok(Needles::Row(NeedleRow::new(row))),
+                None => {
+                    let list = NeedleList::new(alloc, literals, searched)?;
+                    Ok(Needles::Few(list))
+                }
+            },
         }
     }
 
     /// Whether there is none.
     pub fn is_empty(&self) -> bool
-        ensures { result ≡ false → 0 < length (literals_sought self.now) }
+        ensures { result ≡ false → AreSome self.now }
     {
         match self {
             Needles::Few(list) => list.is_empty(),
-            Needles::Many(_) => false,
+            Needles::Many(_) | Needles::Row(_) => false,
             Needles::GivenUp | Needles::TooSlow => true,
         }
     }
@@ -71,19 +86,18 @@ impl<'n, A: Allocator> Needles<'n, A> {
     pub fn are_too_slow(&self) -> bool {
         match self {
             Needles::TooSlow => true,
-            Needles::Few(_) | Needles::Many(_) | Needles::GivenUp => false,
+            Needles::Few(_) | Needles::Many(_) | Needles::Row(_) | Needles::GivenUp => false,
         }
     }
 
-    /// The first line at or behind a place that holds a literal.
+    /// The first line at or behind a place that may have a hit, as they tell: it holds a literal, or the row.
     pub fn next_line(&mut self, query: &Query<A>, bytes: &[u8], at: usize) -> NextLine
         requires at { at ≤ length bytes.now }
         requires needles { AreNeedles query.now.text bytes.now at self.old }
-        requires some { 0 < length (literals_sought self.old) }
+        requires some { AreSome self.old }
         ensures needles { AreNeedles query.now.text bytes.now at self.new }
-        ensures literals { literals_sought self.new ≡ literals_sought self.old }
-        ensures next { IsNextCandidate query.now.text.fold (terminator_of query.now.text)
-            (literals_sought self.new) at bytes.now result }
+        ensures some { AreSome self.new }
+        ensures next { IsNextCandidate query.now.text at bytes.now result }
     {
         match self {
             Needles::Few(list) => match list.next_line(query, bytes, at) {
@@ -91,6 +105,7 @@ impl<'n, A: Allocator> Needles<'n, A> {
                 None => NextLine::Nowhere,
             },
             Needles::Many(set) => set.next_line(query, bytes, at),
+            Needles::Row(row) => row.next_line(query, bytes, at),
             Needles::GivenUp | Needles::TooSlow => NextLine::GaveUp,
         }
     }

@@ -6,13 +6,13 @@ ghost use Rattle.pg_pattern.specs.Trees.{pattern};
 ghost use Rattle.pg_selection.specs.Search.{AreTreesOf, HasTrees, Fixed, patterns, terminator_of};
 ghost use Rattle.pg_blocks.specs.Lines.{IsLine};
 ghost use Rattle.pg_literal.specs.Literals.{as_searched};
-ghost use Rattle.pg_lines.specs.Literals.{AreLiterals, TellHeads, data_of};
+ghost use Rattle.pg_lines.specs.Literals.{AreLiterals, IsRowOf, TellHeads, data_of};
 ghost use Rattle.pg_lines.specs.Strings.{HitsIgnoreFront, IsSetOf, IsSuffixOf};
 ghost use Rattle.pg_lines.specs.Queries.{IsCompiled, IsQueryFault};
 ghost use Rattle.pg_lines.specs.declared.query.QueryFault.TheVariants.{OutOfMemory};
 
 use crate::literal_set::{LiteralSet, few_of};
-use pg_literal::{LineSuffix, Literal, looks_behind};
+use pg_literal::{LineSuffix, Literal, RowFinder, looks_behind};
 use pg_match::{BuildFault, Machine};
 use pg_pattern::Tree;
 use pg_selection::{QueryText, Selector};
@@ -58,6 +58,8 @@ pub struct Query<A: Allocator = Global> {
     suffix: Option<LineSuffix<A>>,
     /// What stands before a place of a line doesn't matter to the matches behind it.
     ignores_front: bool,
+    /// A row that stands in each line with a hit, if one is known that costs less to look for than the literals.
+    row: Option<RowFinder<A>>,
 }
 
 impl<A: Allocator> Drop for Query<A> {
@@ -69,6 +71,7 @@ impl<A: Allocator> Drop for Query<A> {
             literal_set: _,
             suffix: _,
             ignores_front: _,
+            row: _,
         } = self;
     }
 }
@@ -76,7 +79,7 @@ impl<A: Allocator> Drop for Query<A> {
 impl<A: Allocator> Model for Query<A> {
     ghost use Rattle.std.specs.Prelude.{map, IfSome, IsTrue};
     ghost use Rattle.std.specs.Arc.{arc_value};
-    ghost use Rattle.pg_lines.specs.Literals.{AreLiterals, TellHeads, data_of};
+    ghost use Rattle.pg_lines.specs.Literals.{AreLiterals, IsRowOf, TellHeads, data_of};
     ghost use Rattle.pg_lines.specs.Strings.{HitsIgnoreFront, IsSetOf, IsSuffixOf};
     ghost use Rattle.pg_lines.specs.Queries.{Compiled, IsCompiled};
 
@@ -89,7 +92,8 @@ impl<A: Allocator> Model for Query<A> {
         × TellHeads (arc_value q.selector) q.literals.items
         × IfSome q.literal_set (IsSetOf (arc_value q.selector))
         × IfSome q.suffix (IsSuffixOf (arc_value q.selector))
-        × (IsTrue q.ignores_front → HitsIgnoreFront (arc_value q.selector)) };
+        × (IsTrue q.ignores_front → HitsIgnoreFront (arc_value q.selector))
+        × IfSome q.row (IsRowOf (arc_value q.selector)) };
 }
 
 impl<A: Allocator> Query<A> {
@@ -113,6 +117,7 @@ impl<A: Allocator> Query<A> {
         let literal_set = LiteralSet::of(alloc, &literals, is_fixed(&text), text.bounds())?;
         let suffix = suffix_of(alloc, &text, trees.as_slice())?;
         let ignores_front = ignores_front(&text, trees.as_slice());
+        let row = row_of(alloc, &text, trees.as_slice(), &literals)?;
         let selector = selector_of(alloc, text)?;
         Ok(Query {
             selector,
@@ -121,6 +126,7 @@ impl<A: Allocator> Query<A> {
             literal_set,
             suffix,
             ignores_front,
+            row,
         })
     }
 
@@ -184,6 +190,13 @@ impl<A: Allocator> Query<A> {
         ensures { IfSome result (λ suffix. IsSuffixOf self.now.text suffix.now) }
     {
         self.suffix.as_ref()
+    }
+
+    /// A row that stands in each line with a hit, if one is known that costs less to look for than the literals.
+    pub(crate) fn row(&self) -> Option<&RowFinder<A>>
+        ensures { IfSome result (λ row. IsRowOf self.now.text row.now) }
+    {
+        self.row.as_ref()
     }
 }
 
@@ -275,6 +288,27 @@ fn suffix_of<A: Allocator + Copy>(
     ensures { IfOk result (λ found. IfSome found (IsSuffixOf text.now)) }
 {
     LineSuffix::of(alloc, trees, text.bounds())
+}
+
+/// The finder of a row that stands in each line with a hit of a text's patterns, whose trees and literals these are,
+/// where one is known that costs less to look for.
+fn row_of<A: Allocator + Copy>(
+    alloc: A,
+    text: &QueryText<A>,
+    trees: &[Tree<A>],
+    literals: &[Literal<A>],
+) -> Result<Option<RowFinder<A>>, AllocError>
+    requires trees { AreTreesOf text.now (map pattern trees.now) }
+    ensures { IfOk result (λ found. IfSome found (IsRowOf text.now)) }
+{
+    RowFinder::of(
+        alloc,
+        trees,
+        text.bounds(),
+        text.fold,
+        text.terminator(),
+        literals,
+    )
 }
 
 /// Whether what stands before a place of a line doesn't matter to the matches of a text's patterns behind it, whose

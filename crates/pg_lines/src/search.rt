@@ -13,13 +13,13 @@ ghost use Rattle.pg_lines.specs.Queries.{IsCompiled};
 ghost use Rattle.pg_lines.specs.Literals.{AreLiterals, TellHeads, data_of};
 ghost use Rattle.pg_lines.specs.Strings.{AreBlockStrings, FindsPart, IsSetOf, JudgesLine};
 ghost use Rattle.pg_lines.specs.declared.strings.NextString.TheVariants.{Behind};
-ghost use Rattle.pg_lines.specs.Candidates.{AreNeedles, literals_sought};
+ghost use Rattle.pg_lines.specs.Candidates.{AreNeedles, AreSome};
 ghost use Rattle.pg_lines.specs.Finding.{CanSearch, HasNoNextHit, IsNextHit};
 
 use crate::every_line::{hits_each_line, runs_of_each_line};
 use crate::literal_set::{LiteralSet, fixed_strings};
 use crate::needle_set::NextLine;
-use crate::needles::Needles;
+use crate::needles::{FAR, Needles};
 use crate::parts::push_line_parts;
 use crate::query::Query;
 use crate::runs::{push_run, run_between, with_line};
@@ -38,9 +38,6 @@ const PATIENCE: usize = 8;
 
 /// Lines of fewer bytes are read by the automaton as fast as a text is looked for in them.
 const SHORT: usize = 32;
-
-/// It takes as long to look at a line that holds a needle as to search so many bytes line by line.
-const FAR: usize = 128;
 
 /// Whether some span of a line is a hit, where none begins before a place, and none is empty. The line has at most 2^30
 /// bytes, and the scratch is of the query's machine.
@@ -207,7 +204,7 @@ fn next_confirmed<A: Allocator>(
     at: usize,
 ) -> Option<Span>
     requires ready { CanSearch query.now bytes.now strings.now needles.old scratch.old at }
-    requires some { 0 < length (literals_sought needles.old) }
+    requires some { AreSome needles.old }
     ensures needles { IfSome result (λ line. AreNeedles query.now.text bytes.now line.end needles.new) }
     ensures fits { Fits scratch.new query.now.machine }
     ensures found { MatchOption result (HasNoNextHit query.now.text bytes.now at)
@@ -402,7 +399,13 @@ fn search_by<A: Allocator + Copy>(
         query.suffix(),
         searched,
     );
-    let mut needles = Needles::new(alloc, literals, sought_set(query, set), searched)?;
+    let mut needles = Needles::new(
+        alloc,
+        literals,
+        sought_set(query, set),
+        query.row(),
+        searched,
+    )?;
     selected_runs(alloc, query, &strings, &mut needles, scratch, bytes)
 }
 

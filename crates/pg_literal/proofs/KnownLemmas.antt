@@ -1,12 +1,12 @@
 -- What is known of some patterns in a row, with one more in front.
-use Rattle.std.proofs.Common.{ℕ, zero, suc, ◌≡◌, ◌≤◌, ◌+◌, Bool, List, [], ◌∷◌, ◌++◌, length, map, reverse}
+use Rattle.std.proofs.Common.{ℕ, zero, suc, ◌≡◌, ◌<◌, ◌≤◌, ◌+◌, Bool, List, [], ◌∷◌, ◌++◌, length, map, reverse}
 use Rattle.std.proofs.Common.{IsTrue, true, false, Option, None, Some, inl, inr, refl, sym, ap, ◌∙◌, subst, arith}
 use Rattle.std.proofs.Common.{append_assoc}
 use Rattle.std.specs.Prelude.{IfSome}
 use Rattle.std.proofs.lemmas.Bool.{false≢true}
 use Rattle.std.proofs.lemmas.List.{reverse-append, length_push, map-append, length-append}
 use Rattle.pg_bytes.specs.ByteSets.{bytes}
-use Rattle.pg_bytes.specs.Sets.{one}
+use Rattle.pg_bytes.specs.Sets.{Bytes, one}
 use Rattle.pg_bytes.specs.declared.byte_set.ByteSet.{ByteSet}
 use Rattle.pg_pattern.specs.Patterns.{Pattern, Empty, Set, Begin, End, Cat, Alt, Rep, folded}
 use Rattle.pg_grammar.specs.Grammar as G
@@ -16,7 +16,7 @@ use Rattle.pg_pattern.specs.Matches.{Match, Chain}
 use Rattle.pg_literal.proofs.RowLemmas.{stands_within}
 use Rattle.pg_literal.specs.Rows.{StandsAt, row_of}
 use Rattle.pg_literal.specs.Known.{head_of, sets_of, HasRows, IsSureAt, MatchesEmpty, Extends, Hides, HidesOthers}
-use Rattle.pg_literal.specs.Known.{Repeats}
+use Rattle.pg_literal.specs.Known.{MatchesSet, Repeats}
 use Rattle.pg_literal.specs.declared.known.MatchFacts.{MatchFacts}
 
 -- spans that go forward do so one behind the other too
@@ -36,6 +36,12 @@ chain_front Span forward (suc count) zero i j few c = absurd (omega arith)
 chain_front Span forward (suc count) (suc all) i j few c =
     let others = chain_front Span forward count all c.0 j (omega arith) c.2 in
     (others.0, (c.0, c.1, others.1), others.2)
+
+-- the last span of a chain
+chain_last : (Span : ℕ → ℕ → Type 0) (count i j : ℕ) → 0 < count → Chain Span count i j → (k : ℕ) × Span k j
+chain_last Span zero i j some c = absurd (omega arith)
+chain_last Span (suc zero) i j some c = (i, subst (Span i) c.2 c.1)
+chain_last Span (suc (suc count)) i j some c = chain_last Span (suc count) c.0 j (omega arith) c.2
 
 -- no match ends before it begins
 pub match_forward : (p : Pattern) (line : List ℕ) (i j : ℕ) → Match p line i j → i ≤ j
@@ -192,12 +198,11 @@ module _ {A : Type 0} (fold : Bool) where
   extends_end = anchored End (λ line i j m. m.1) (end_unspelled fold)
 
   module _ (optional : Bool) (rest whole : MatchFacts A) (hides : Hides optional rest whole) where
-    -- where the rows stand further right, what hides them stands
-    hidden_rows : (line : List ℕ) (i j : ℕ) → i ≤ j → HasRows rest line j → HasRows whole line i
-    hidden_rows line i j forward has = record {
+    -- where the rows stand, what hides them stands anywhere
+    hidden_at : (line : List ℕ) (i j : ℕ) → i ≤ length line → HasRows rest line j → HasRows whole line i
+    hidden_at line i j within has = record {
       head =
-          let fits = stands_within line (head_of rest) j has.head in
-          let none : StandsAt line (row_of []) i = omega arith in
+          let none : StandsAt line (row_of []) i = within in
           subst (λ sets. StandsAt line (row_of sets) i) (sym hides.head) none;
       best = elim hides.best [
         | inl head ↦
@@ -205,6 +210,11 @@ module _ {A : Type 0} (fold : Bool) where
         | inr best ↦ subst (λ row. (place : ℕ) × StandsAt line (row_of row.items) place) (sym best.0) has.best
       ];
     }
+
+    -- where they stand further right, it does
+    hidden_rows : (line : List ℕ) (i j : ℕ) → i ≤ j → HasRows rest line j → HasRows whole line i
+    hidden_rows line i j forward has =
+        let fits = stands_within line (head_of rest) j has.head in hidden_at line i j (omega arith) has
 
     -- nothing is left of the head
     hidden_long : (i j : ℕ) → i ≤ j → i + length whole.head.items ≤ j + length rest.head.items
@@ -240,6 +250,16 @@ module _ {A : Type 0} (fold : Bool) where
       → (IsTrue optional → MatchesEmpty (Alt p q)) → Extends fold (Alt p q) rest whole
   extends_alt p q optional rest whole hides empty =
       extends_hidden optional rest whole hides (Alt p q) empty (alt_unspelled fold p q)
+
+  -- patterns that match one byte of a set together
+  pub extends_as_set : (p q : Pattern) (set : Bytes) (rest whole : MatchFacts A) → MatchesSet (Alt p q) set
+      → Extends fold (Set set) rest whole → Extends fold (Alt p q) rest whole
+  extends_as_set p q set rest whole same is = record {
+    rows = λ line i j m has. is.rows line i j ((same line i j).0 m) has;
+    long = λ line i j m. is.long line i j ((same line i j).0 m);
+    sure = λ line i o. let h = is.sure line i o in (h.0, (same line i h.0).1 h.1, h.2);
+    fixed = λ text s. absurd (alt_unspelled fold p q text s);
+  }
 
   -- rounds of which there may be none
   pub extends_rep : (p : Pattern) (least : ℕ) (most : Option ℕ) (rest whole : MatchFacts A) → least ≡ 0
@@ -338,9 +358,31 @@ module _ {A : Type 0} (fold : Bool) where
     fixed = λ text s. absurd (shape s);
   }
 
+  -- so many rounds or more, of which the last one stands in front of the rest
+  extends_last : (p : Pattern) (count least : ℕ) (most : Option ℕ) (rest last hidden whole : MatchFacts A)
+      → 0 < count → count ≤ least → Extends fold p rest last → Hides false last hidden
+      → Repeats fold p count hidden whole → Extends fold (Rep p least most) rest whole
+  unfolding Shape
+  extends_last p count least most rest last hidden whole one some before hides all = record {
+    rows = λ line i j m has.
+        let front = chain_front (Match p line) (match_forward p line) count m.0 i j (omega (arith, m.1)) m.3 in
+        let round = chain_last (Match p line) m.0 i j (omega (arith, m.1)) m.3 in
+        let within = stands_within line (head_of rest) j has.head in
+        repeats_rows p count hidden whole all line i front.0 front.1
+        (hidden_at false last hidden hides line front.0 round.0 (omega (arith, within, front.2))
+        (before.rows line round.0 j round.1 has));
+    long = λ line i j m.
+        let front = chain_front (Match p line) (match_forward p line) count m.0 i j (omega (arith, m.1)) m.3 in
+        omega (arith, repeats_long p count hidden whole all line i front.0 front.1, ap length hides.head, front.2);
+    sure = λ line i o.
+        let at = repeats_sure p count hidden whole all line i o in
+        absurd (false≢true (hidden_sure false last hidden hides line at.0 at.2).0);
+    fixed = λ text s. absurd (shape s);
+  }
+
   -- a repetition of which some first rounds are known
   pub extends_rounds : (p : Pattern) (n rounds least : ℕ) (most : Option ℕ) (rest hidden behind whole : MatchFacts A)
-      → rounds ≡ suc n → rounds ≤ least → HidesOthers rounds least most rest hidden
+      → rounds ≡ suc n → rounds ≤ least → HidesOthers fold p rounds least most rest hidden
       → Repeats fold p n hidden behind → Extends fold p behind whole → Extends fold (Rep p least most) rest whole
   extends_rounds p n rounds least most rest hidden behind whole size some (inl single) others first =
       let all : Repeats fold p (suc n) hidden whole = (behind, others, first) in
@@ -348,7 +390,11 @@ module _ {A : Type 0} (fold : Bool) where
       (extends_exactly p rounds rest whole
       (subst (λ k. Repeats fold p k rest whole) (sym size)
       (subst (λ known. Repeats fold p (suc n) known whole) single.2 all)))
-  extends_rounds p n rounds least most rest hidden behind whole size some (inr hides) others first =
+  extends_rounds p n rounds least most rest hidden behind whole size some (inr (inr last)) others first =
+      let all : Repeats fold p (suc n) hidden whole = (behind, others, first) in
+      extends_last p rounds least most rest last.0 hidden whole (omega arith) some last.1 last.2
+      (subst (λ k. Repeats fold p k hidden whole) (sym size) all)
+  extends_rounds p n rounds least most rest hidden behind whole size some (inr (inl hides)) others first =
       let all : Repeats fold p (suc n) hidden whole = (behind, others, first) in
       extends_more p rounds least most hides.0 rest hidden whole some hides.1 hides.2
       (subst (λ k. Repeats fold p k hidden whole) (sym size) all)

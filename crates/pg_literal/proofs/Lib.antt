@@ -1,7 +1,10 @@
+pub mod FinderLemmas
 pub mod FoldLemmas
 pub mod InnerLemmas
 pub mod KnownLemmas
 pub mod LiteralLemmas
+pub mod RangeLemmas
 pub mod RestLemmas
 pub mod RowLemmas
+pub mod SetLemmas
 pub mod SuffixLemmas

@@ -275,7 +275,7 @@ part_stands line row before part behind i is o =
 module _ {A : Type 0} (fold : Bool) (p : Pattern) (nothing known : MatchFacts A)
     (empty : IsNothing nothing) (extends : Extends fold p nothing known) where
   -- a match has the rows
-  match_rows : (line : List ℕ) (i j : ℕ) → j ≤ length line → Match p line i j → HasRows known line i
+  pub match_rows : (line : List ℕ) (i j : ℕ) → j ≤ length line → Match p line i j → HasRows known line i
   match_rows line i j within m =
       let none : StandsAt line (row_of []) j = within in
       extends.rows line i j m (record {
@@ -284,7 +284,7 @@ module _ {A : Type 0} (fold : Bool) (p : Pattern) (nothing known : MatchFacts A)
       })
 
   -- where a sure row stands a hit begins
-  sure_hit : (line : List ℕ) (i : ℕ) → IsSureAt known line i → HasHit (p ∷ []) Any line
+  pub sure_hit : (line : List ℕ) (i : ℕ) → IsSureAt known line i → HasHit (p ∷ []) Any line
   sure_hit line i sure =
       let end = extends.sure line i sure in
       let within = place_within nothing line end.0 end.2 in (

@@ -1,9 +1,9 @@
 -- What is known of the matches of some patterns in a row.
-use Rattle.std.specs.Prelude.{◌≡◌, ◌⊎◌, ◌≤◌, ◌<◌, ℕ, zero, suc, ◌+◌, Bool, List, [], ◌++◌, length, map}
-use Rattle.std.specs.Prelude.{Option, Some, IfSome, true}
+use Rattle.std.specs.Prelude.{◌≡◌, ◌⊎◌, ◌↔◌, ◌≤◌, ◌<◌, ℕ, zero, suc, ◌+◌, Bool, List, [], ◌++◌, length, map}
+use Rattle.std.specs.Prelude.{Option, Some, IfSome, true, false}
 use Rattle.std.specs.Prelude.{IsTrue}
 use Rattle.pg_bytes.specs.Sets.{Bytes, one}
-use Rattle.pg_pattern.specs.Patterns.{Pattern, Rep, folded}
+use Rattle.pg_pattern.specs.Patterns.{Pattern, Set, Rep, folded}
 use Rattle.pg_grammar.specs.Grammar.{Spells}
 use Rattle.pg_grammar.specs.declared.pattern_list.Kind.TheVariants.{Fixed}
 use Rattle.pg_pattern.specs.Matches.{Match}
@@ -42,6 +42,10 @@ IsSureAt known line i =
 abbrev pub MatchesEmpty : Pattern → Type 0
 MatchesEmpty p = (line : List ℕ) (i : ℕ) → Match p line i i
 
+-- the pattern matches one byte of the set
+abbrev pub MatchesSet : Pattern → Bytes → Type 0
+MatchesSet p set = (line : List ℕ) (i j : ℕ) → Match p line i j ↔ Match (Set set) line i j
+
 -- the sets of a fixed string's bytes, with their other cases where case is folded
 abbrev pub sets_of : Bool → List ℕ → List Bytes
 sets_of fold text = map (λ b. folded fold (one b)) text
@@ -72,13 +76,14 @@ Repeats fold p zero rest whole = whole ≡ rest
 Repeats {A} fold p (suc count) rest whole =
     (known : MatchFacts A) × Repeats fold p count rest known × Extends fold p known whole
 
--- the rounds of a repetition behind its first ones, if there may be any, hide the rest; they are optional where the
--- first ones are enough
-abbrev pub HidesOthers : {A : Type 0} → ℕ → ℕ → Option ℕ → MatchFacts A → MatchFacts A → Type 0
-HidesOthers rounds least most rest whole =
+-- The rounds of a repetition behind its first ones, if there may be any, hide the rest; they are optional where the
+-- first ones are enough. Or they hide the rest with the last round in front of it.
+abbrev pub HidesOthers : {A : Type 0} → Bool → Pattern → ℕ → ℕ → Option ℕ → MatchFacts A → MatchFacts A → Type 0
+HidesOthers {A} fold p rounds least most rest whole =
     ((least ≡ rounds) × (most ≡ Some rounds) × (whole ≡ rest))
     ⊎ ((is_optional : Bool) × (IsTrue is_optional → (least ≡ rounds) × IfSome most (λ most. rounds ≤ most))
     × Hides is_optional rest whole)
+    ⊎ ((last : MatchFacts A) × Extends fold p rest last × Hides false last whole)
 
 -- with the pattern in front once more all rounds of a repetition are
 abbrev pub LacksFirst : {A : Type 0} → Bool → Pattern → ℕ → Option ℕ → MatchFacts A → MatchFacts A → Type 0

@@ -5,3 +5,7 @@ pub mod Added
 pub mod Inner
 pub mod Suffixes
 pub mod Rests
+pub mod Ranges
+pub mod CoveredSets
+pub mod Needed
+pub mod RowOutcomes

@@ -23,6 +23,10 @@ items_of text = text.items
 abbrev pub row_of : List ByteSet → List Bytes
 row_of sets = reverse (map bytes sets)
 
+-- the row of sets that lie forwards
+abbrev pub row_along : List ByteSet → List Bytes
+row_along sets = map bytes sets
+
 -- the byte as it is searched for: itself, or where case is folded, in lower case
 abbrev pub byte_as_searched : Bool → ℕ → ℕ
 byte_as_searched fold b = if fold then lower_case b else b

@@ -1,4 +1,13 @@
-//! What it costs to look for texts. No contract speaks of it: it only decides between texts that all serve.
+//! What it costs to look for texts, and for rows of sets. No contract speaks of it: it only decides between such as
+//! all serve.
+
+ghost use Rattle.std.specs.Prelude.{◌≤◌};
+
+use crate::covered::CoveredSet;
+use crate::literal::{Literal, cost_of};
+use crate::ranges::Cover;
+use pg_bytes::ByteSet;
+use std::alloc::Allocator;
 
 /// Up to so many texts are looked for one by one.
 pub(crate) const FEW: usize = 8;
@@ -24,7 +33,9 @@ pub(crate) const RAREST: usize = 9;
 /// How rare a byte is: how often one is halved for the part of all bytes that are this one, about as in prose and in
 /// programs. Punctuation counts as rare: where it is, a search for it alone is by far the fastest, and where it isn't,
 /// texts with it hardly spare the automaton a line.
-pub(crate) fn rarity_of(byte: u8) -> usize {
+pub(crate) fn rarity_of(byte: u8) -> usize
+    ensures { result ≤ 9 }
+{
     match byte {
         b' ' => 3,
         0 | b'e' | b't' | b'a' | b'o' | b'i' | b'n' | b's' | b'r' | b'h' => 4,
@@ -53,4 +64,107 @@ pub(crate) fn finding_cost(text: &[u8], is_enough: bool) -> usize {
     }
     let line = if is_enough { SELECTED } else { IN_VAIN };
     if rarity < 20 { line >> rarity } else { 0 }
+}
+
+/// The chance of a byte to be one that is rare in any text, in parts of 2^32.
+const ODD: usize = 1 << 19;
+
+/// What is certain, as a chance.
+const CERTAIN: usize = 1 << 32;
+
+/// No row is looked for by two sets whose bytes are to be expected more often.
+const OFTEN: usize = CERTAIN / 32;
+
+/// No more often where the row is enough, so that lines that have it aren't read.
+const COMMON: usize = CERTAIN / 8;
+
+/// What it costs to pass a byte in the search for two sets of a row, in picoseconds.
+const SETS: usize = 250;
+
+/// What it costs to compare a row where bytes of these sets stand.
+const TRIED: usize = 8_000;
+
+/// The chance of a byte, in parts of 2^32. Controls and bytes above 127 are taken for rare ones: where they aren't,
+/// that soon shows.
+fn chance_of_byte(byte: u8) -> usize {
+    if byte >= 128 || byte < b' ' && byte != b'\t' {
+        ODD
+    } else {
+        CERTAIN >> rarity_of(byte)
+    }
+}
+
+/// The chance of a byte to be in a set, in parts of 2^32.
+fn chance_in(set: &ByteSet) -> usize {
+    let mut chance: usize = 0;
+    for byte in 0..=u8::MAX {
+        if set.contains(byte) {
+            chance = chance.saturating_add(chance_of_byte(byte));
+        }
+    }
+    chance.min(CERTAIN)
+}
+
+/// The chance of a byte to be in ranges that cover a set.
+fn chance_covered(cover: Cover) -> usize {
+    let mut chance: usize = 0;
+    for byte in 0..=u8::MAX {
+        if cover.contains(byte) {
+            chance = chance.saturating_add(chance_of_byte(byte));
+        }
+    }
+    chance.min(CERTAIN)
+}
+
+/// The chance of a place to have a byte of each of some sets, one behind the other, in parts of 2^32.
+pub(crate) fn chance_of(sets: &[ByteSet]) -> usize {
+    let mut chance = CERTAIN;
+    for set in sets {
+        chance = (chance >> 16).saturating_mul(chance_in(set) >> 16);
+    }
+    chance
+}
+
+/// Whether no row costs less to look for than some literals.
+pub(crate) fn are_cheap<A: Allocator>(literals: &[Literal<A>]) -> bool {
+    !literals.is_empty() && cost_of(literals) <= 2 * ONE
+}
+
+/// What is paid for each byte that is passed in the search for the only byte of a set, and for trying a row there.
+pub(crate) fn byte_cost(set: &ByteSet) -> usize {
+    ONE.saturating_add(TRIED.saturating_mul(chance_in(set) >> 16) >> 16)
+}
+
+/// The same in the search for bytes of two sets.
+pub(crate) fn sets_cost(near: CoveredSet, far: CoveredSet, is_enough: bool) -> usize {
+    let first = chance_covered(near.cover);
+    let second = if near.offset == far.offset {
+        CERTAIN
+    } else {
+        chance_covered(far.cover)
+    };
+    let both = (first >> 16).saturating_mul(second >> 16);
+    let bound = if is_enough { COMMON } else { OFTEN };
+    if both > bound {
+        NO_TEXT
+    } else {
+        SETS.saturating_add(TRIED.saturating_mul(both >> 16) >> 16)
+    }
+}
+
+/// Whether a row is worth to be looked for at what is paid for passing bytes: it costs less than some literals, or than
+/// to ask the automaton about each line, if there are none. What lines cost that hold it in vain soon shows in a block.
+pub(crate) fn has_use<A: Allocator>(
+    passing: usize,
+    row: &[ByteSet],
+    is_enough: bool,
+    literals: &[Literal<A>],
+) -> bool {
+    let line = if is_enough { SELECTED } else { IN_VAIN };
+    let lines = line.saturating_mul(chance_of(row) >> 16) >> 16;
+    if literals.is_empty() {
+        passing < NO_TEXT
+    } else {
+        passing.saturating_add(lines) < cost_of(literals)
+    }
 }

@@ -1,7 +1,8 @@
 //! What is known of the matches of trees in a row.
-ghost use Rattle.std.specs.Prelude.{◌≡◌, ◌≤◌, ℕ, Bool, List, [], ◌∷◌, map, reverse, IsTrue, IfOk, IfSome, IsSomeAnd};
+ghost use Rattle.std.specs.Prelude.{◌≡◌, ◌≤◌, ℕ, Bool, List, [], ◌∷◌, map, min, reverse, IsTrue, IfOk, IfSome};
+ghost use Rattle.std.specs.Prelude.{IsSomeAnd};
 ghost use Rattle.pg_bytes.specs.ByteSets.{bytes};
-ghost use Rattle.pg_pattern.specs.Patterns.{Begin, End, Set};
+ghost use Rattle.pg_pattern.specs.Patterns.{Pattern, Begin, End, Set};
 ghost use Rattle.pg_pattern.specs.Trees.{pattern};
 ghost use Rattle.pg_literal.specs.Literals.{as_searched};
 ghost use Rattle.pg_literal.specs.Rows.{AreProduct};
@@ -9,6 +10,7 @@ ghost use Rattle.pg_literal.specs.Known.{head_of, sets_of, IsNothing, Extends, H
 ghost use Rattle.pg_literal.specs.Known.{IsChosen, LacksFirst, Repeats};
 
 use crate::row::{Expansion, Window, Worth, only_text, widest, widest_or_whole};
+use crate::sets::set_of;
 use pg_bytes::ByteSet;
 use pg_pattern::{Bounds, Tree};
 use std::alloc::{AllocError, Allocator};
@@ -113,12 +115,33 @@ impl<A: Allocator + Copy> MatchFacts<A> {
         least: u8,
         most: Option<u8>,
     ) -> MatchFacts<A>
-        ensures { HidesOthers rounds least most self result }
+        ensures { (fold : Bool) (p : Pattern) → HidesOthers fold p rounds least most self result }
     {
         if least == rounds && most == Some(rounds) {
             self
         } else {
             self.hidden(alloc, expansion, least == rounds && allows(most, rounds))
+        }
+    }
+
+    /// The same of a set. What stands behind the repetition follows its last round, so that this one is part of the
+    /// row.
+    fn with_other_sets(
+        self,
+        alloc: A,
+        set: &ByteSet,
+        expansion: Expansion,
+        least: u8,
+        most: Option<u8>,
+    ) -> Result<MatchFacts<A>, AllocError>
+        ensures { (fold : Bool) → IfOk result (HidesOthers fold (Set (bytes set.now)) (min least 32) least most self) }
+    {
+        let rounds = least.min(ROUNDS);
+        if most == Some(rounds) || self.head.is_empty() {
+            Ok(self.with_other_rounds(alloc, expansion, rounds, least, most))
+        } else {
+            let last = self.with_set(set)?;
+            Ok(last.hidden(alloc, expansion, false))
         }
     }
 
@@ -214,9 +237,8 @@ fn with_later_rounds<A: Allocator + Copy>(
 {
     match inner {
         Tree::Set(set) => {
-            let rounds = least.min(ROUNDS);
-            let hidden = known.with_other_rounds(alloc, expansion, rounds, least, most);
-            let behind = hidden.with_sets(set, rounds - 1)?;
+            let hidden = known.with_other_sets(alloc, set, expansion, least, most)?;
+            let behind = hidden.with_sets(set, least.min(ROUNDS) - 1)?;
             Ok(behind)
         }
         _ => Ok(known.with_other_rounds(alloc, expansion, 1, least, most)),
@@ -276,6 +298,10 @@ pub(crate) fn with_tree<A: Allocator + Copy>(
                 tree = first;
             }
             Tree::Alt(_, _) => {
+                if let Some(set) = set_of(tree) {
+                    let known = known.with_set(&set)?;
+                    return Ok(known);
+                }
                 let is_optional = matches_empty(tree);
                 return Ok(known.hidden(alloc, expansion, is_optional));
             }

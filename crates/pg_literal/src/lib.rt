@@ -6,13 +6,20 @@
 #![tactic(auto)]
 
 mod cost;
+mod covered;
 mod front;
 mod inner;
 mod known;
 mod literal;
+mod ranges;
 mod row;
+mod row_finder;
+mod row_outcome;
+mod sets;
 mod suffix;
 
 pub use front::looks_behind;
 pub use literal::Literal;
+pub use row_finder::RowFinder;
+pub use row_outcome::RowOutcome;
 pub use suffix::LineSuffix;

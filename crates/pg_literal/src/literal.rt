@@ -98,7 +98,7 @@ pub(crate) fn single(fold: bool) -> Expansion
 }
 
 /// Rows of so many trees or alternatives may become several texts.
-fn wider(fold: bool, count: usize) -> Expansion
+pub(crate) fn wider(fold: bool, count: usize) -> Expansion
     ensures { result.fold ≡ fold }
 {
     if count <= FEW {

@@ -121,7 +121,7 @@ fn first_byte(set: &ByteSet) -> Option<u8>
 }
 
 /// The byte that those of a set are searched for as, where the set has all that are searched for as that byte.
-fn only_byte(set: &ByteSet, fold: bool) -> Option<u8>
+pub(crate) fn only_byte(set: &ByteSet, fold: bool) -> Option<u8>
     ensures { MatchOption result ((b : ℕ) → IsAlone fold (bytes set.now) b → ⊥) (IsAlone fold (bytes set.now)) }
 {
     let first = first_byte(set)?;

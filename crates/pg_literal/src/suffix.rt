@@ -1,11 +1,11 @@
 //! The bytes with which each line with a hit ends, where these are all that a match is.
 ghost use Rattle.std.specs.Prelude.{◌≡◌, ℕ, IsTrue, IfOk, IfSome, MatchOption, map};
-ghost use Rattle.pg_bytes.specs.ByteSets.{bytes};
-ghost use Rattle.pg_pattern.specs.Patterns.{Pattern, Cat, End, Set};
+ghost use Rattle.pg_pattern.specs.Patterns.{Pattern, Cat, End};
 ghost use Rattle.pg_pattern.specs.Trees.{pattern};
 ghost use Rattle.pg_literal.specs.Rows.{row_of};
 ghost use Rattle.pg_literal.specs.Suffixes.{EndsWith, IsRow, IsSuffix, suffix_row};
 
+use crate::sets::only_set;
 use pg_bytes::ByteSet;
 use pg_pattern::{Bounds, Tree};
 use std::alloc::{AllocError, Allocator, Global};
@@ -15,16 +15,6 @@ use std::alloc::{AllocError, Allocator, Global};
 pub struct LineSuffix<A: Allocator = Global> {
     /// The sets, the last one first.
     pub(crate) sets: Vec<ByteSet, A>,
-}
-
-/// The set of a tree that is one.
-fn only_set<A: Allocator>(tree: &Tree<A>) -> Option<ByteSet>
-    ensures { IfSome result (λ set. pattern tree.now ≡ Set (bytes set)) }
-{
-    match tree {
-        Tree::Set(set) => Some(*set),
-        _ => None,
-    }
 }
 
 /// Whether a tree is the end of a line.

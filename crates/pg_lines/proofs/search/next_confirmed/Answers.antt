@@ -1,14 +1,13 @@
-use Rattle.std.proofs.Common.{◌<◌, ◌≤◌, ◌^◌, ℕ, Option, Some, None, List, length, drop, sym, ap, ◌∙◌, subst, arith}
+use Rattle.std.proofs.Common.{◌≤◌, ◌^◌, ℕ, Option, Some, None, List, length, drop, sym, ap, ◌∙◌, subst, arith}
 use Rattle.std.specs.Option.{MatchOption}
 use Rattle.pg_selection.specs.Search.{SearchText, Pattern, AreTreesOf, search_of, uninverted, terminator_of}
 use Rattle.pg_selection.specs.Selection.{selects}
-use Rattle.pg_lines.specs.Candidates.{literals_sought}
 use Rattle.pg_lines.specs.Finding.{HasNoNextHit, IsNextHit}
 use Rattle.pg_blocks.specs.declared.span.Span.{Span}
-use Rattle.pg_lines.proofs.CandidateLemmas.{IsSkipped, skipped_all, skipped_some, skipped_more, missed_without}
+use Rattle.pg_lines.proofs.CandidateLemmas.{IsSkipped, skipped_all, skipped_some, skipped_more}
 use Rattle.pg_lines.proofs.CandidateLemmas.{first_selected, first_enough, first_short, found_text}
 use Rattle.pg_lines.proofs.JudgeLemmas.{judges_front}
-use Rattle.pg_lines.proofs.SoughtLemmas.{are_sought, needles_later}
+use Rattle.pg_lines.proofs.SoughtLemmas.{needles_later}
 use Rattle.pg_lines.proofs.search.next_confirmed.Goals as goal
 use Rattle.pg_lines.proofs.search.next_confirmed.Goals.{then-found-via-then-found}
 use Rattle.pg_lines.proofs.search.next_confirmed.Goals.{then-found-via-else-found+then-has_hit}
@@ -19,12 +18,8 @@ returns-in-Nowhere-clause-found g c = λ trees spelled.
     let bytes = c.args.bytes.now in
     let from = c.loop-in_vain.from in
     let i = c.loop-in_vain.invariant in
-    let moved = c.next_line.new.self in
-    let any : 0 < length (literals_sought moved) =
-    subst (λ ls. 0 < length ls) (sym c.next_line.ensures.literals) i.some in
     skipped_all (search_of (uninverted text) trees) c.args.at from bytes (i.skipped trees spelled)
-    (missed_without text trees spelled (literals_sought moved)
-    (are_sought text bytes from moved c.in-Nowhere.ensures.needles) any (drop from bytes) c.in-Nowhere.ensures.next)
+    (c.in-Nowhere.ensures.next trees spelled)
 
 pub has_hit-requires-clause-short : goal.has_hit-requires-clause-short
 has_hit-requires-clause-short g c =
@@ -34,16 +29,11 @@ has_hit-requires-clause-short g c =
     let i = c.loop-in_vain.invariant in
     let from = c.loop-in_vain.from in
     let found = c.in-Found.found in
-    let moved = c.next_line.new.self in
-    let literals = literals_sought moved in
-    let are = are_sought text bytes from moved c.in-Found.ensures.needles in
-    let any : 0 < length literals =
-    subst (λ ls. 0 < length ls) (sym c.next_line.ensures.literals) i.some in
     let first = c.in-Found.ensures.next.3 in
-    let cut = found_text text.fold E literals from bytes found c.terminator-end.result c.text_of-text.result.now
+    let cut = found_text text from bytes found c.terminator-end.result c.text_of-text.result.now
     c.terminator-end.ensures first c.text_of-text.ensures.text in
     let P : List ℕ → Type 0 = λ l. length l ≤ 2 ^ 30 in
-    subst P (sym cut) (first_short text.fold E literals from bytes found first i.short).0
+    subst P (sym cut) (first_short text from bytes found first i.short).0
 
 pub returns-then-found-clause-found : goal.returns-then-found-clause-found
 returns-then-found-clause-found g c =
@@ -53,11 +43,6 @@ returns-then-found-clause-found g c =
     let i = c.loop-in_vain.invariant in
     let from = c.loop-in_vain.from in
     let found = c.in-Found.found in
-    let moved = c.next_line.new.self in
-    let literals = literals_sought moved in
-    let are = are_sought text bytes from moved c.in-Found.ensures.needles in
-    let any : 0 < length literals =
-    subst (λ ls. 0 < length ls) (sym c.next_line.ensures.literals) i.some in
     let first = c.in-Found.ensures.next.3 in
     let next = c.in-Found.ensures.next in
     record {
@@ -66,11 +51,11 @@ returns-then-found-clause-found g c =
           let q = search_of (uninverted text) trees in
           skipped_some q c.args.at from bytes (i.skipped trees spelled) found.line (elim c.then-found.branch [
             | then-found-via-then-found w ↦
-                first_enough text trees spelled literals are any from (drop from bytes) found first w.if-found.true
+                first_enough text trees spelled from (drop from bytes) found first w.if-found.true
             | then-found-via-else-found+then-has_hit w ↦
-                let cut = found_text text.fold E literals from bytes found c.terminator-end.result
+                let cut = found_text text from bytes found c.terminator-end.result
                 c.text_of-text.result.now c.terminator-end.ensures first c.text_of-text.ensures.text in
-                first_selected text trees spelled literals are any from (drop from bytes) found first
+                first_selected text trees spelled from (drop from bytes) found first
                 (ap (selects q) (sym cut) ∙ (sym (w.has_hit.ensures.hit trees spelled) ∙ w.if-has_hit.true))
           ]);
     }
@@ -83,13 +68,8 @@ loop-in_vain-preserved g c =
     let i = c.loop-in_vain.invariant in
     let from = c.loop-in_vain.from in
     let found = c.in-Found.found in
-    let moved = c.next_line.new.self in
-    let literals = literals_sought moved in
-    let are = are_sought text bytes from moved c.in-Found.ensures.needles in
-    let any : 0 < length literals =
-    subst (λ ls. 0 < length ls) (sym c.next_line.ensures.literals) i.some in
     let first = c.in-Found.ensures.next.3 in
-    let cut = found_text text.fold E literals from bytes found c.terminator-end.result c.text_of-text.result.now
+    let cut = found_text text from bytes found c.terminator-end.result c.text_of-text.result.now
     c.terminator-end.ensures first c.text_of-text.ensures.text in
     let next = c.in-Found.ensures.next in
     record {
@@ -97,13 +77,13 @@ loop-in_vain-preserved g c =
       low = omega (arith, i.low, next.0, next.1);
       within = next.2;
       few = omega (arith, c.loop-in_vain-test.true, c.saturating_sub-in_vain.ensures);
-      needles = needles_later text bytes from found.line.end moved (omega (arith, next.0, next.1))
+      needles = needles_later text bytes from found.line.end c.next_line.new.self (omega (arith, next.0, next.1))
           c.in-Found.ensures.needles;
-      some = any;
-      short = (first_short text.fold E literals from bytes found first i.short).1;
+      some = c.in-Found.ensures.some;
+      short = (first_short text from bytes found first i.short).1;
       skipped = λ trees spelled.
           let q = search_of (uninverted text) trees in
-          skipped_more text trees spelled literals are any c.args.at from bytes found (i.skipped trees spelled)
+          skipped_more text trees spelled c.args.at from bytes found (i.skipped trees spelled)
           first (ap (selects q) (sym cut) ∙ (sym (c.has_hit.ensures.hit trees spelled) ∙ c.if-has_hit.false));
     }
 

@@ -2,7 +2,7 @@ use Rattle.std.proofs.Common.{inl, inr, rules}
 use Rattle.pg_pattern.specs.declared.tree.Tree.{the_lemmas}
 use Rattle.pg_pattern.proofs.PatternLemmas.{pattern-empty, pattern-set, pattern-begin, pattern-end}
 use Rattle.pg_pattern.proofs.PatternLemmas.{pattern-cat, pattern-alt, pattern-rep}
-use Rattle.pg_literal.proofs.KnownLemmas.{extends_empty, extends_cat, extends_alt, extends_rep}
+use Rattle.pg_literal.proofs.KnownLemmas.{extends_empty, extends_as_set, extends_cat, extends_alt, extends_rep}
 use Rattle.pg_literal.proofs.known.+with_tree.Goals as goal
 
 pub returns-in-Empty : goal.returns-in-Empty
@@ -29,6 +29,12 @@ loop-tree-preserved-in-Cat-1 g t c =
           c.loop-tree.invariant.whole fold whole
           (rw (pattern-cat _ _ _ c.in-Cat.is) (extends_cat fold _ _ _ _ whole second first));
     }
+
+pub returns-in-Some : goal.returns-in-Some
+returns-in-Some g t c = λ fold.
+    let same = rw (pattern-alt _ _ _ c.in-Alt.is) at c.in-Some.ensures in
+    c.loop-tree.invariant.whole fold _
+    (rw (pattern-alt _ _ _ c.in-Alt.is) (extends_as_set fold _ _ _ _ _ same (c.in_ok-known-in-Alt.ensures fold)))
 
 pub returns-in-Alt : goal.returns-in-Alt
 returns-in-Alt g t c = λ fold.

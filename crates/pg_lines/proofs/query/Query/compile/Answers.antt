@@ -3,7 +3,7 @@ use Rattle.std.specs.Option.{IfSome}
 use Rattle.std.proofs.Common.{◌≡◌, ◌<◌, length, List, map, sym, ap, subst, inl, inr, arith}
 use Rattle.pg_literal.specs.declared.literal.Literal.{Literal}
 use Rattle.pg_literal.specs.Literals.{as_searched}
-use Rattle.pg_lines.specs.Literals.{AreLiterals, TellHeads, data_of}
+use Rattle.pg_lines.specs.Literals.{AreLiterals, IsRowOf, TellHeads, data_of}
 use Rattle.pg_lines.specs.Queries.{IsCompiled}
 use Rattle.pg_lines.specs.Strings.{HitsIgnoreFront, IsSetOf, IsSuffixOf}
 use Rattle.pg_selection.specs.Search.{SearchText, Fixed, patterns}
@@ -27,7 +27,8 @@ invariant_of-result g c =
     let set = c.in_ok-literal_set.literal_set in
     let Fits : SearchText → Type 0 = λ t. IsCompiled (record { text = t; machine = machine })
     × AreLiterals t (map data_of few) × TellHeads t few × IfSome set (IsSetOf t)
-    × IfSome c.in_ok-suffix.suffix (IsSuffixOf t) × (IsTrue c.ignores_front-ignores_front.result → HitsIgnoreFront t) in
+    × IfSome c.in_ok-suffix.suffix (IsSuffixOf t) × (IsTrue c.ignores_front-ignores_front.result → HitsIgnoreFront t)
+    × IfSome c.in_ok-row.row (IsRowOf t) in
     subst Fits (sym c.in_ok-selector.ensures) (
       c.in_ok-machine.ensures.machine,
       elim c.few_of.ensures [
@@ -44,6 +45,7 @@ invariant_of-result g c =
           c.in_ok-literal_set.ensures.strings c.in_ok-literal_set.ensures.enough),
       c.in_ok-suffix.ensures,
       c.ignores_front-ignores_front.ensures,
+      c.in_ok-row.ensures,
     )
 
 pub returns-clause-compiled : goal.returns-clause-compiled

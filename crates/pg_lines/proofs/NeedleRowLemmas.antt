@@ -1,0 +1,196 @@
+-- Lines in which a row of sets stands, and lines in which it doesn't.
+use Rattle.std.proofs.Common.{◌≡◌, ℕ, ◌+◌, ◌-◌, ◌<◌, ◌≤◌, inl, inr, Bool, true, false, List, [], ◌∷◌, ◌++◌, Option}
+use Rattle.std.proofs.Common.{Some, None}
+use Rattle.std.proofs.Common.{length, take, drop, get_or, refl, sym, ap, ◌∙◌, subst, arith, IsTrue, length-append}
+use Rattle.std.proofs.Common.{length-drop}
+use Rattle.std.specs.Prelude.{IfOk, IfSome, Result, Ok, Err}
+use Rattle.std.specs.List.{All, AllByRecursion}
+use Rattle.std.proofs.lemmas.Bool.{cases_Bool, cases_lt}
+use Rattle.std.proofs.lemmas.List.{take-append-drop, drop_at, get_or-drop, get_or-take, length-take-le}
+use Rattle.std.proofs.lemmas.List.Prefix.{at_reads}
+use Rattle.std.proofs.lemmas.Option.{slice_get-get_or, get_or_from_slice_get}
+use Rattle.memchr.specs.Find.{Nowhere}
+use Rattle.pg_pattern.specs.Hits.{HasHit}
+use Rattle.pg_literal.specs.Needed.{IsEnoughRow, IsNeeded}
+use Rattle.pg_literal.specs.Rows.{StandsAt}
+use Rattle.pg_literal.specs.declared.row_finder.RowFinder.{RowFinder}
+use Rattle.pg_literal.proofs.FinderLemmas.{each_stands, stands_each, stands_fits}
+use Rattle.pg_literal.proofs.RowLemmas.{stands_within}
+use Rattle.pg_blocks.specs.Lines.{lines, terminated, IsLine, AreWhole, IsClear, Stops}
+use Rattle.pg_blocks.proofs.LineLaws.{lines_are_lines}
+use Rattle.pg_blocks.proofs.LineLemmas.{made, around}
+use Rattle.pg_selection.specs.Search.{SearchText, Pattern, Bounds, AreTreesOf, bounds_of, search_of, terminator_of}
+use Rattle.pg_selection.specs.Search.{uninverted}
+use Rattle.pg_selection.specs.Selection.{selects}
+use Rattle.pg_selection.specs.Runs.{AllLines}
+use Rattle.pg_selection.proofs.SelectLemmas.{selects_decides}
+use Rattle.pg_selection.proofs.TreeLemmas.{same_trees}
+use Rattle.pg_lines.specs.Literals.{IsRowOf, finder_row}
+use Rattle.pg_lines.specs.Finding.{IsFirstCandidate}
+use Rattle.pg_lines.proofs.CandidateLemmas.{all_more}
+use Rattle.pg_lines.proofs.RunLemmas.{all_by_index, line_at, line_some}
+
+-- the sets of a row
+abbrev Sets : Type 0
+Sets = List (ℕ → Bool)
+
+-- what is read behind them
+abbrev empty : ℕ → Bool
+empty b = false
+
+-- a row that stands in a part stands in the whole
+stands_inside : (xs front l tail : List ℕ) (row : Sets) (i : ℕ) → xs ≡ front ++ (l ++ tail) → StandsAt l row i
+    → StandsAt xs row (length front + i)
+stands_inside xs front l tail [] i e o =
+    omega (arith, ap length e, length-append front (l ++ tail), length-append l tail, o)
+stands_inside xs front l tail (set ∷ row) i e o =
+    let less = stands_within l row (i + 1) o.1 in
+    let long : length xs ≡ length front + (length l + length tail) =
+    omega (arith, ap length e, length-append front (l ++ tail), length-append l tail) in
+    let d : drop (length front) xs ≡ l ++ tail = ap (drop (length front)) e
+    ∙ drop_at front (l ++ tail) (length front) refl in
+    let byte : get_or xs (length front + i) 0 ≡ o.0.0 =
+    at_reads 0 xs l (length front) tail d i (omega (arith, less)) ∙ get_or_from_slice_get l i o.0.0 0 o.0.1 in
+    let next : length front + (i + 1) ≡ length front + i + 1 = omega arith in (
+      (o.0.0, slice_get-get_or xs (length front + i) 0 (omega (arith, less, long)) ∙ ap Some byte, o.0.2),
+      subst (StandsAt xs row) next (stands_inside xs front l tail row (i + 1) e o.1),
+    )
+
+-- one that stands before a place stands in the whole
+stands_upto : (xs : List ℕ) (row : Sets) (s i : ℕ) → StandsAt (take s xs) row i → StandsAt xs row i
+stands_upto xs row s i o =
+    let none : 0 + i ≡ i = omega arith in
+    subst (StandsAt xs row) none (stands_inside xs [] (take s xs) (drop s xs) row i (sym (take-append-drop s xs)) o)
+
+-- no line has the row, and each lacks the terminator
+abbrev Without : ℕ → Sets → List (List ℕ) → Type 0
+Without end row ls = AllByRecursion (λ l. IsLine end l × ((i : ℕ) → StandsAt l row i → ⊥)) ls
+
+both_of : (P Q : List ℕ → Type 0) (ls : List (List ℕ)) → AllByRecursion P ls → AllByRecursion Q ls
+    → AllByRecursion (λ l. P l × Q l) ls
+both_of P Q [] p q = tt
+both_of P Q (l ∷ ls) p q = ((p.0, q.0), both_of P Q ls p.1 q.1)
+
+-- where it stands nowhere, no line has it
+lines_without : (end : ℕ) (bytes : List ℕ) (row : Sets) → ((i : ℕ) → StandsAt bytes row i → ⊥)
+    → Without end row (lines end bytes)
+lines_without end bytes row none =
+    both_of (IsLine end) (λ l. (i : ℕ) → StandsAt l row i → ⊥) (lines end bytes) (lines_are_lines end bytes).each
+    (all_by_index (λ l. (i : ℕ) → StandsAt l row i → ⊥) (lines end bytes) (λ k below i o.
+    let r = around end bytes (lines end bytes) (made end bytes) k below in
+    let front = terminated end (take k (lines end bytes)) in
+    none (length front + i) (stands_inside bytes front (get_or (lines end bytes) k []) r.0 row i r.1 o)))
+
+-- a row that ends within a part stands in the part
+stands_part : (bytes : List ℕ) (row : Sets) (s e k : ℕ) → s ≤ k → e ≤ length bytes → k + length row ≤ e
+    → StandsAt bytes row k → StandsAt (take (e - s) (drop s bytes)) row (k - s)
+stands_part bytes row s e k low high fits o =
+    let line = take (e - s) (drop s bytes) in
+    let size : length line ≡ e - s = length-take-le (e - s) (drop s bytes) (omega (arith, length-drop s bytes)) in
+    stands_each line row (k - s) (omega arith) (λ j less.
+    let at : s + ((k - s) + j) ≡ k + j = omega arith in
+    let read : get_or line ((k - s) + j) 0 ≡ get_or bytes (k + j) 0 =
+    get_or-take (e - s) (drop s bytes) ((k - s) + j) 0 (omega arith)
+    ∙ (get_or-drop s bytes ((k - s) + j) 0 ∙ ap (λ n. get_or bytes n 0) at) in
+    ap (get_or row j empty) read ∙ (each_stands bytes row k j less o).1)
+
+-- a row without the terminator ends where a line does, or before
+row_ends : (end : ℕ) (bytes : List ℕ) (row : Sets) (k e stop : ℕ) → All (λ set. set end ≡ true → ⊥) row
+    → StandsAt bytes row k → k ≤ e → Stops end bytes e stop → k + length row ≤ e
+row_ends end bytes row k e stop within o low stops = elim (cases_lt e (k + length row)) [
+  | inr fits ↦ fits
+  | inl beyond ↦ elim stops [
+    | inl h ↦
+        let at : k + (e - k) ≡ e = omega arith in
+        let byte : get_or bytes (k + (e - k)) 0 ≡ end = ap (λ n. get_or bytes n 0) at ∙ h.2 in
+        let less : e - k < length row = omega arith in
+        absurd (within (e - k) empty less
+        (ap (get_or row (e - k) empty) (sym byte) ∙ (each_stands bytes row k (e - k) less o).1))
+    | inr h ↦ omega (arith, h.1, stands_fits bytes row k o)
+  ]
+]
+
+module _ {A : Type 0} (text : SearchText) (finder : RowFinder A) (is : IsRowOf text finder) where
+  -- then none of them has a hit
+  missed_row : (bytes : List ℕ) → ((i : ℕ) → StandsAt bytes (finder_row finder) i → ⊥) → (trees : List Pattern)
+      → AreTreesOf text trees → AllLines (search_of (uninverted text) trees) false bytes
+  missed_row bytes none trees spelled =
+      let q = search_of (uninverted text) trees in
+      let E = terminator_of text in
+      all_more (λ l. IsLine E l × ((i : ℕ) → StandsAt l (finder_row finder) i → ⊥)) (λ l. selects q l ≡ false)
+      (lines E bytes)
+      (λ l h. elim (cases_Bool (selects q l)) [
+        | inl chosen ↦
+            let o = is.needed trees spelled l h.0 ((selects_decides q l).0 chosen) in absurd (h.1 o.0 o.1)
+        | inr none' ↦ none'
+      ])
+      (lines_without E bytes (finder_row finder) none)
+
+  -- the row stands nowhere: no line has a hit
+  pub nowhere_row : (bytes : List ℕ) → Nowhere (StandsAt bytes (finder_row finder)) 0 (length bytes)
+      → (trees : List Pattern) → AreTreesOf text trees → AllLines (search_of (uninverted text) trees) false bytes
+  nowhere_row bytes none = missed_row bytes (λ i o.
+      let fits = stands_fits bytes (finder_row finder) i o in
+      none i (omega arith) (omega (arith, fits, is.some)) o)
+
+  -- the line around the first place at which it stands is the first that may have a hit
+  pub first_row : (end : ℕ) (bytes : List ℕ) (at s k stop : ℕ) → end ≡ terminator_of text
+      → Nowhere (StandsAt bytes (finder_row finder)) 0 k → k < length bytes → StandsAt bytes (finder_row finder) k
+      → s ≤ k → IsClear end bytes s k
+      → AreWhole end (take s bytes) → (e : ℕ) × (k ≤ e) × IsClear end bytes k e × Stops end bytes e stop
+      → IsFirstCandidate text at bytes
+      (record { line = record { start = at + s; end = at + stop }; is_enough = finder.is_enough })
+      × (s < stop) × (stop ≤ length bytes)
+  first_row end bytes at s k stop same none below o low before front behind =
+      let E = terminator_of text in
+      let Around : ℕ → Type 0 = λ t. IsClear t bytes s k × AreWhole t (take s bytes)
+      × ((e : ℕ) × (k ≤ e) × IsClear t bytes k e × Stops t bytes e stop) in
+      let all = subst Around same (before, front, behind) in
+      let h = all.2 in
+      let within : h.0 ≤ length bytes = elim h.3 [ inl m ↦ omega (arith, m.1) | inr m ↦ omega (arith, m.1) ] in
+      let sides = line_some E bytes s k h.0 stop low h.1 below h.3 in
+      let clear : IsClear E bytes s h.0 =
+      λ i from to. elim (cases_lt i k) [ inl less ↦ all.0 i from less | inr more ↦ h.2 i more to ] in (
+        record {
+          s = s;
+          e = h.0;
+          stop = stop;
+          is = line_at E bytes s h.0 stop (omega (arith, h.1)) within sides.0 clear h.3;
+          front = all.1;
+          missed = missed_row (take s bytes) (λ i o.
+              let fits = stands_fits (take s bytes) (finder_row finder) i o in
+              let size = length-take-le s bytes (omega arith) in
+              none i (omega arith) (omega (arith, fits, size, is.some)) (stands_upto bytes (finder_row finder) s i o));
+          enough = λ flag trees spelled.
+              let fits = row_ends E bytes (finder_row finder) k h.0 stop is.within o h.1 h.3 in
+              let here = stands_part bytes (finder_row finder) s h.0 k low within fits o in
+              (selects_decides (search_of (uninverted text) trees) (take (h.0 - s) (drop s bytes))).1
+              (is.enough flag trees spelled (take (h.0 - s) (drop s bytes)) (k - s) here);
+          starts = refl;
+          ends = refl;
+        },
+        sides.0,
+        sides.1,
+      )
+
+-- the row of a text's trees
+pub row_known : {A E : Type 0} (found : Result (Option (RowFinder A)) E) (text : SearchText) (trees : List Pattern)
+    (bounds : Bounds) (end : ℕ) → AreTreesOf text trees → bounds ≡ bounds_of text → end ≡ terminator_of text
+    → IfOk found (λ o. IfSome o (λ finder. IsNeeded trees bounds end (finder_row finder)))
+    → IfOk found (λ o. IfSome o (λ finder. IsTrue finder.is_enough → IsEnoughRow trees bounds (finder_row finder)))
+    → IfOk found (λ o. IfSome o (IsRowOf text))
+row_known (Err e) text trees bounds end spelled own same h enough = tt
+row_known (Ok None) text trees bounds end spelled own same h enough = tt
+row_known (Ok (Some finder)) text trees bounds end spelled own same h enough =
+    let row = finder_row finder in
+    let is = subst (λ t. IsNeeded trees (bounds_of text) t row) same (subst (λ b. IsNeeded trees b end row) own h) in
+    record {
+      some = is.some;
+      within = is.within;
+      needed = λ trees' spelled' line alone hit.
+          is.stands line alone (subst (λ ts. HasHit ts (bounds_of text) line)
+          (same_trees text trees' trees spelled' spelled) hit);
+      enough = λ flag trees' spelled' line i o.
+          subst (λ ts. HasHit ts (bounds_of text) line) (same_trees text trees trees' spelled spelled')
+          (subst (λ b. HasHit trees b line) own (enough flag line i o));
+    }

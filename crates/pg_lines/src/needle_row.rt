@@ -1,0 +1,69 @@
+//! Where a row of sets stands in a block.
+ghost use Rattle.std.specs.Prelude.{◌≡◌, ◌≤◌, length};
+ghost use Rattle.pg_lines.specs.Literals.{IsRowOf};
+ghost use Rattle.pg_lines.specs.Finding.{IsNextCandidate};
+
+use crate::needle::Candidate;
+use crate::needle_set::NextLine;
+use crate::needles::FAR;
+use crate::query::Query;
+use pg_blocks::{Span, begin_of_line, end_of_line};
+use pg_literal::{RowFinder, RowOutcome};
+use std::alloc::Allocator;
+
+/// How many lines may have the row, beyond one for each `FAR` bytes, until the rest of the block is searched line by
+/// line.
+const CROWD: usize = 8;
+
+/// A row of sets, by which lines are looked for.
+pub(crate) struct NeedleRow<'n, A: Allocator> {
+    finder: &'n RowFinder<A>,
+    /// How many lines were found close to the one before, less one for each `FAR` bytes that were passed.
+    close: usize,
+}
+
+impl<'n, A: Allocator> Drop for NeedleRow<'n, A> {
+    fn drop(self) {
+        let NeedleRow {
+            finder: _,
+            close: _,
+        } = self;
+    }
+}
+
+impl<'n, A: Allocator> NeedleRow<'n, A> {
+    pub fn new(finder: &'n RowFinder<A>) -> NeedleRow<'n, A>
+        ensures { result.finder.now ≡ finder.now }
+    {
+        NeedleRow { finder, close: 0 }
+    }
+
+    /// The first line at or behind a place in which the row stands.
+    pub fn next_line(&mut self, query: &Query<A>, bytes: &[u8], at: usize) -> NextLine
+        requires at { at ≤ length bytes.now }
+        requires row { IsRowOf query.now.text self.old.finder.now }
+        ensures finder { self.new.finder ≡ self.old.finder }
+        ensures next { IsNextCandidate query.now.text at bytes.now result }
+    {
+        if self.close >= CROWD && !self.finder.is_enough {
+            return NextLine::GaveUp;
+        }
+        let rest = &bytes[at..];
+        let found = match self.finder.find(rest, 0) {
+            RowOutcome::Found(place) => place,
+            RowOutcome::NotFound => return NextLine::Nowhere,
+            RowOutcome::GaveUp => return NextLine::GaveUp,
+        };
+        let end = query.terminator();
+        let line = Span {
+            start: at + begin_of_line(end, rest, found),
+            end: at + end_of_line(end, rest, found),
+        };
+        let passed = (line.start - at) / FAR;
+        self.close = self.close.saturating_sub(passed).saturating_add(1);
+        NextLine::Found(Candidate {
+            line,
+            is_enough: self.finder.is_enough,
+        })
+    }
+}
