@@ -109,6 +109,19 @@ LOG = """
 -cE (GET|HEAD).*404
 """
 
+# Rows of sets: rare ones, common ones, and some of which the log has parts everywhere.
+SETS = r"""
+-c [^[:print:]]
+-c [0-9]
+-cE [A-Z]{3,}
+-cE [0-9]+[.][0-9]+
+-cE [0-9][0-9]:[0-9][0-9]
+-cE (\+|-|\*|/)=
+-cE [A-Z][a-z]+[A-Z]
+-cE [qjxz][^u]
+-cE (ab|cd|ef|gh|ij)k
+"""
+
 LISTS = ("-c", "-ci", "-cw", "-cx", "-o", "-cvx")
 
 
@@ -178,7 +191,9 @@ def cases(folder, megabytes):
     write(folder / "letters", b"a" * 20_000 + b"\n")
     yield from split("-oE a*b|a", "letters")
     write(folder / "log", texts.log(20))
-    yield from split(LOG, "log")
+    yield from split(LOG + SETS, "log")
+    write(folder / "pairs", texts.pairs(5))
+    yield from split("-cE [A-Z]{3}\n-cE [0-9]{2}:[0-9]", "pairs")
     write(folder / "agents", texts.agents(20))
     yield from split('-cE x86_64\\)"$\n-c "$\n-vc 64$\n-cE [0-9][)]"$\n-cE HTTP/1[.]1".40[0-9].9', "agents")
     write(folder / "line", texts.one_line())

@@ -161,6 +161,11 @@ def near_misses(megabytes):
     return (b"a" * 200 + b"\n") * (megabytes * MEGABYTE // 201)
 
 
+def pairs(megabytes):
+    """Lines of pairs of capitals and of digits, and no three in a row."""
+    return (b"ABx12-" * 30 + b"\n") * (megabytes * MEGABYTE // 181)
+
+
 def late_hits(megabytes):
     """The same lines with a `b` at the end of each."""
     return (b"a" * 200 + b"b\n") * (megabytes * MEGABYTE // 202)
