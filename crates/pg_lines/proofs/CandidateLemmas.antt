@@ -2,7 +2,7 @@
 use Rattle.std.proofs.Common.{◌≡◌, ◌≢◌, ℕ, zero, suc, ◌+◌, ◌-◌, ◌<◌, ◌≤◌, ◌^◌, ◌⊎◌, inl, inr, Bool, true, false, List}
 use Rattle.std.proofs.Common.{[], ◌∷◌}
 use Rattle.std.proofs.Common.{◌++◌, length, take, drop, slice_range, refl, sym, ap, ◌∙◌, subst, arith, append_assoc}
-use Rattle.std.proofs.Common.{length-append}
+use Rattle.std.proofs.Common.{IsTrue, length-append}
 use Rattle.std.specs.List.{AllByRecursion, Any}
 use Rattle.std.proofs.lemmas.List.{take-append-drop, drop-drop, drop_at, take_at, append-nil, length-take-le}
 use Rattle.pg_literal.specs.Literals.{Holds}
@@ -13,8 +13,8 @@ use Rattle.pg_selection.specs.Selection.{selects}
 use Rattle.pg_selection.specs.Runs.{AllLines, IsNextRun}
 use Rattle.pg_lines.specs.Gathered.{IsNextLine}
 use Rattle.pg_lines.specs.Literals.{LiteralData, HoldsOne, AreLiterals}
-use Rattle.pg_lines.specs.Candidates.{AreWithout, IsFirstWith, IsNextWith}
-use Rattle.pg_lines.specs.Finding.{IsFirstCandidate, IsNextCandidate}
+use Rattle.pg_lines.specs.Candidates.{AreWithout, IsFirstWith, IsLineAt, IsNextWith}
+use Rattle.pg_lines.specs.Finding.{HasNoNextHit}
 use Rattle.pg_lines.specs.declared.needle.Candidate.{Candidate}
 use Rattle.pg_lines.specs.declared.needle_set.NextLine.{NextLine}
 use Rattle.pg_lines.specs.declared.needle_set.NextLine.TheVariants.{Found, Nowhere, GaveUp}
@@ -33,6 +33,29 @@ nothing_behind [] zero h = refl
 nothing_behind [] (suc n) h = refl
 nothing_behind (x ∷ xs) zero h = absurd (omega arith)
 nothing_behind (x ∷ xs) (suc n) h = nothing_behind xs n (omega arith)
+
+-- The first line that may have a hit, in bytes that stand from a place on: before it are whole lines that have none.
+-- Where the flag is set, it has one.
+pub record IsFirstCandidate (text : SearchText) (at : ℕ) (bytes : List ℕ) (found : Candidate) : Type 0 where
+  pub s : ℕ
+  pub e : ℕ
+  pub stop : ℕ
+  pub is : IsLineAt (terminator_of text) bytes s e stop
+  pub front : AreWhole (terminator_of text) (take s bytes)
+  pub missed : (trees : List Pattern) → AreTreesOf text trees
+      → AllLines (search_of (uninverted text) trees) false (take s bytes)
+  pub enough : IsTrue found.is_enough → (trees : List Pattern) → AreTreesOf text trees
+      → selects (search_of (uninverted text) trees) (take (e - s) (drop s bytes)) ≡ true
+  pub starts : found.line.start ≡ at + s
+  pub ends : found.line.end ≡ at + stop
+
+-- the same of bytes from a place on, if there is such a line and the search wasn't given up
+abbrev pub IsNextCandidate : SearchText → ℕ → List ℕ → NextLine → Type 0
+IsNextCandidate text at bytes (Found found) =
+    (at ≤ found.line.start) × (found.line.start < found.line.end) × (found.line.end ≤ length bytes)
+    × IsFirstCandidate text at (drop at bytes) found
+IsNextCandidate text at bytes Nowhere = HasNoNextHit text bytes at
+IsNextCandidate text at bytes GaveUp = Unit {0}
 
 -- the text of the line that was found
 abbrev pub text_found : (text : SearchText) (at : ℕ) (bytes : List ℕ) (found : Candidate)

@@ -9,7 +9,7 @@ use Rattle.std.proofs.lemmas.Bool.{cases_Bool, cases_lt}
 use Rattle.std.proofs.lemmas.List.{take-append-drop, drop_at, get_or-drop, get_or-take, length-take-le}
 use Rattle.std.proofs.lemmas.List.Prefix.{at_reads}
 use Rattle.std.proofs.lemmas.Option.{slice_get-get_or, get_or_from_slice_get}
-use Rattle.memchr.specs.Find.{Nowhere}
+use Rattle.memchr.specs.Find as F
 use Rattle.pg_pattern.specs.Hits.{HasHit}
 use Rattle.pg_literal.specs.Needed.{IsEnoughRow, IsNeeded}
 use Rattle.pg_literal.specs.Rows.{StandsAt}
@@ -25,9 +25,12 @@ use Rattle.pg_selection.specs.Selection.{selects}
 use Rattle.pg_selection.specs.Runs.{AllLines}
 use Rattle.pg_selection.proofs.SelectLemmas.{selects_decides}
 use Rattle.pg_selection.proofs.TreeLemmas.{same_trees}
-use Rattle.pg_lines.specs.Literals.{IsRowOf, finder_row}
-use Rattle.pg_lines.specs.Finding.{IsFirstCandidate}
-use Rattle.pg_lines.proofs.CandidateLemmas.{all_more}
+use Rattle.pg_lines.specs.Literals.{HoldsRow, IsRowOf, finder_row}
+use Rattle.pg_lines.specs.Candidates.{AreWithoutRow, IsFirstWithRow, IsNextWithRow}
+use Rattle.pg_lines.specs.declared.needle.Candidate.{Candidate}
+use Rattle.pg_lines.specs.declared.needle_set.NextLine.{NextLine}
+use Rattle.pg_lines.specs.declared.needle_set.NextLine.TheVariants.{Found, Nowhere, GaveUp}
+use Rattle.pg_lines.proofs.CandidateLemmas.{IsFirstCandidate, IsNextCandidate, all_more}
 use Rattle.pg_lines.proofs.RunLemmas.{all_by_index, line_at, line_some}
 
 -- the sets of a row
@@ -62,10 +65,6 @@ stands_upto xs row s i o =
     let none : 0 + i ≡ i = omega arith in
     subst (StandsAt xs row) none (stands_inside xs [] (take s xs) (drop s xs) row i (sym (take-append-drop s xs)) o)
 
--- no line has the row, and each lacks the terminator
-abbrev Without : ℕ → Sets → List (List ℕ) → Type 0
-Without end row ls = AllByRecursion (λ l. IsLine end l × ((i : ℕ) → StandsAt l row i → ⊥)) ls
-
 both_of : (P Q : List ℕ → Type 0) (ls : List (List ℕ)) → AllByRecursion P ls → AllByRecursion Q ls
     → AllByRecursion (λ l. P l × Q l) ls
 both_of P Q [] p q = tt
@@ -73,13 +72,11 @@ both_of P Q (l ∷ ls) p q = ((p.0, q.0), both_of P Q ls p.1 q.1)
 
 -- where it stands nowhere, no line has it
 lines_without : (end : ℕ) (bytes : List ℕ) (row : Sets) → ((i : ℕ) → StandsAt bytes row i → ⊥)
-    → Without end row (lines end bytes)
-lines_without end bytes row none =
-    both_of (IsLine end) (λ l. (i : ℕ) → StandsAt l row i → ⊥) (lines end bytes) (lines_are_lines end bytes).each
-    (all_by_index (λ l. (i : ℕ) → StandsAt l row i → ⊥) (lines end bytes) (λ k below i o.
+    → AreWithoutRow end row bytes
+lines_without end bytes row none = all_by_index (λ l. HoldsRow row l → ⊥) (lines end bytes) (λ k below o.
     let r = around end bytes (lines end bytes) (made end bytes) k below in
     let front = terminated end (take k (lines end bytes)) in
-    none (length front + i) (stands_inside bytes front (get_or (lines end bytes) k []) r.0 row i r.1 o)))
+    none (length front + o.0) (stands_inside bytes front (get_or (lines end bytes) k []) r.0 row o.0 r.1 o.1))
 
 -- a row that ends within a part stands in the part
 stands_part : (bytes : List ℕ) (row : Sets) (s e k : ℕ) → s ≤ k → e ≤ length bytes → k + length row ≤ e
@@ -111,34 +108,19 @@ row_ends end bytes row k e stop within o low stops = elim (cases_lt e (k + lengt
 ]
 
 module _ {A : Type 0} (text : SearchText) (finder : RowFinder A) (is : IsRowOf text finder) where
-  -- then none of them has a hit
-  missed_row : (bytes : List ℕ) → ((i : ℕ) → StandsAt bytes (finder_row finder) i → ⊥) → (trees : List Pattern)
-      → AreTreesOf text trees → AllLines (search_of (uninverted text) trees) false bytes
-  missed_row bytes none trees spelled =
-      let q = search_of (uninverted text) trees in
-      let E = terminator_of text in
-      all_more (λ l. IsLine E l × ((i : ℕ) → StandsAt l (finder_row finder) i → ⊥)) (λ l. selects q l ≡ false)
-      (lines E bytes)
-      (λ l h. elim (cases_Bool (selects q l)) [
-        | inl chosen ↦
-            let o = is.needed trees spelled l h.0 ((selects_decides q l).0 chosen) in absurd (h.1 o.0 o.1)
-        | inr none' ↦ none'
-      ])
-      (lines_without E bytes (finder_row finder) none)
-
-  -- the row stands nowhere: no line has a hit
-  pub nowhere_row : (bytes : List ℕ) → Nowhere (StandsAt bytes (finder_row finder)) 0 (length bytes)
-      → (trees : List Pattern) → AreTreesOf text trees → AllLines (search_of (uninverted text) trees) false bytes
-  nowhere_row bytes none = missed_row bytes (λ i o.
+  -- the row stands nowhere: no line has it
+  pub nowhere_row : (end : ℕ) (bytes : List ℕ) → F.Nowhere (StandsAt bytes (finder_row finder)) 0 (length bytes)
+      → AreWithoutRow end (finder_row finder) bytes
+  nowhere_row end bytes none = lines_without end bytes (finder_row finder) (λ i o.
       let fits = stands_fits bytes (finder_row finder) i o in
       none i (omega arith) (omega (arith, fits, is.some)) o)
 
-  -- the line around the first place at which it stands is the first that may have a hit
+  -- the line around the first place at which it stands is the first that has it
   pub first_row : (end : ℕ) (bytes : List ℕ) (at s k stop : ℕ) → end ≡ terminator_of text
-      → Nowhere (StandsAt bytes (finder_row finder)) 0 k → k < length bytes → StandsAt bytes (finder_row finder) k
+      → F.Nowhere (StandsAt bytes (finder_row finder)) 0 k → k < length bytes → StandsAt bytes (finder_row finder) k
       → s ≤ k → IsClear end bytes s k
       → AreWhole end (take s bytes) → (e : ℕ) × (k ≤ e) × IsClear end bytes k e × Stops end bytes e stop
-      → IsFirstCandidate text at bytes
+      → IsFirstWithRow (terminator_of text) finder at bytes
       (record { line = record { start = at + s; end = at + stop }; is_enough = finder.is_enough })
       × (s < stop) × (stop ≤ length bytes)
   first_row end bytes at s k stop same none below o low before front behind =
@@ -157,21 +139,59 @@ module _ {A : Type 0} (text : SearchText) (finder : RowFinder A) (is : IsRowOf t
           stop = stop;
           is = line_at E bytes s h.0 stop (omega (arith, h.1)) within sides.0 clear h.3;
           front = all.1;
-          missed = missed_row (take s bytes) (λ i o.
+          without = lines_without E (take s bytes) (finder_row finder) (λ i o.
               let fits = stands_fits (take s bytes) (finder_row finder) i o in
               let size = length-take-le s bytes (omega arith) in
               none i (omega arith) (omega (arith, fits, size, is.some)) (stands_upto bytes (finder_row finder) s i o));
-          enough = λ flag trees spelled.
+          holds =
               let fits = row_ends E bytes (finder_row finder) k h.0 stop is.within o h.1 h.3 in
-              let here = stands_part bytes (finder_row finder) s h.0 k low within fits o in
-              (selects_decides (search_of (uninverted text) trees) (take (h.0 - s) (drop s bytes))).1
-              (is.enough flag trees spelled (take (h.0 - s) (drop s bytes)) (k - s) here);
+              (k - s, stands_part bytes (finder_row finder) s h.0 k low within fits o);
+          enough = refl;
           starts = refl;
           ends = refl;
         },
         sides.0,
         sides.1,
       )
+
+  -- lines without the row have no hit
+  missed_row : (bytes : List ℕ) → AreWithoutRow (terminator_of text) (finder_row finder) bytes → (trees : List Pattern)
+      → AreTreesOf text trees → AllLines (search_of (uninverted text) trees) false bytes
+  missed_row bytes none trees spelled =
+      let q = search_of (uninverted text) trees in
+      let E = terminator_of text in
+      let row = finder_row finder in
+      all_more (λ l. IsLine E l × (HoldsRow row l → ⊥)) (λ l. selects q l ≡ false) (lines E bytes)
+      (λ l h. elim (cases_Bool (selects q l)) [
+        | inl chosen ↦ absurd (h.1 (is.needed trees spelled l h.0 ((selects_decides q l).0 chosen)))
+        | inr none' ↦ none'
+      ])
+      (both_of (IsLine E) (λ l. HoldsRow row l → ⊥) (lines E bytes) (lines_are_lines E bytes).each none)
+
+  -- the first line that has it is the first that may have a hit
+  row_candidate : (at : ℕ) (bytes : List ℕ) (found : Candidate)
+      → IsFirstWithRow (terminator_of text) finder at bytes found → IsFirstCandidate text at bytes found
+  row_candidate at bytes found first = record {
+    s = first.s;
+    e = first.e;
+    stop = first.stop;
+    is = first.is;
+    front = first.front;
+    missed = missed_row (take first.s bytes) first.without;
+    enough = λ flag trees spelled.
+        let line = take (first.e - first.s) (drop first.s bytes) in
+        (selects_decides (search_of (uninverted text) trees) line).1
+        (is.enough (sym first.enough ∙ flag) trees spelled line first.holds);
+    starts = first.starts;
+    ends = first.ends;
+  }
+
+  -- the same of the first one from a place on, if there is one
+  pub next_row : (at : ℕ) (bytes : List ℕ) (next : NextLine) → IsNextWithRow (terminator_of text) finder at bytes next
+      → IsNextCandidate text at bytes next
+  next_row at bytes (Found found) h = (h.0, h.1, h.2, row_candidate at (drop at bytes) found h.3)
+  next_row at bytes Nowhere h = missed_row (drop at bytes) h
+  next_row at bytes GaveUp h = tt
 
 -- the row of a text's trees
 pub row_known : {A E : Type 0} (found : Result (Option (RowFinder A)) E) (text : SearchText) (trees : List Pattern)
@@ -190,7 +210,7 @@ row_known (Ok (Some finder)) text trees bounds end spelled own same h enough =
       needed = λ trees' spelled' line alone hit.
           is.stands line alone (subst (λ ts. HasHit ts (bounds_of text) line)
           (same_trees text trees' trees spelled' spelled) hit);
-      enough = λ flag trees' spelled' line i o.
+      enough = λ flag trees' spelled' line o.
           subst (λ ts. HasHit ts (bounds_of text) line) (same_trees text trees trees' spelled spelled')
-          (subst (λ b. HasHit trees b line) own (enough flag line i o));
+          (subst (λ b. HasHit trees b line) own (enough flag line o.0 o.1));
     }

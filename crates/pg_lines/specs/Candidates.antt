@@ -1,12 +1,14 @@
--- Which lines hold a literal.
+-- Which lines hold a literal, or a row.
 use Rattle.std.specs.Prelude.{◌≡◌, ◌≢◌, ◌<◌, ◌≤◌, Bool, ℕ, ◌+◌, ◌-◌, ◌⊎◌, List, [], ◌∷◌, ◌++◌, length, take, drop, map}
-use Rattle.std.specs.Prelude.{Option, IfSome, Some, IsSomeAnd}
+use Rattle.std.specs.Prelude.{Option, IfSome, None, Some, IsSomeAnd}
 use Rattle.std.specs.List.{AllByRecursion, All, Any}
 use Rattle.memchr.specs.Find.{OccursAt}
 use Rattle.pg_literal.specs.Literals.{Holds, as_searched}
 use Rattle.pg_blocks.specs.Lines.{lines, AreWhole}
-use Rattle.pg_selection.specs.Search.{SearchText}
-use Rattle.pg_lines.specs.Literals.{LiteralData, HoldsOne, AreLiterals, IsRowOf, set_literals}
+use Rattle.pg_literal.specs.declared.row_finder.RowFinder.{RowFinder}
+use Rattle.pg_selection.specs.Search.{SearchText, terminator_of}
+use Rattle.pg_lines.specs.Literals.{LiteralData, HoldsOne, HoldsRow, AreLiterals, IsRowOf}
+use Rattle.pg_lines.specs.Literals.{finder_row, set_literals}
 use Rattle.pg_lines.specs.declared.needle.Needle.{Needle}
 use Rattle.pg_lines.specs.declared.needle.NeedleList.{NeedleList}
 use Rattle.pg_lines.specs.declared.needle_set.NeedleSet.{NeedleSet}
@@ -44,6 +46,25 @@ pub record IsFirstWith (fold : Bool) (end : ℕ) (literals : List LiteralData) (
   pub without : AreWithout fold end literals (take s bytes)
   pub holds : Any (λ literal. (literal.is_enough ≡ found.is_enough)
       × Holds fold (take (e - s) (drop s bytes)) literal.text) literals
+  pub starts : found.line.start ≡ at + s
+  pub ends : found.line.end ≡ at + stop
+
+-- no line of the bytes holds the row
+abbrev pub AreWithoutRow : ℕ → List (ℕ → Bool) → List ℕ → Type 0
+AreWithoutRow end row bytes = AllByRecursion (λ line. HoldsRow row line → ⊥) (lines end bytes)
+
+-- The first line that holds a finder's row, in bytes that stand from a place on: before it are whole lines without it.
+-- The flag is the finder's.
+pub record IsFirstWithRow {A : Type 0} (end : ℕ) (finder : RowFinder A) (at : ℕ) (bytes : List ℕ)
+    (found : Candidate) : Type 0 where
+  pub s : ℕ
+  pub e : ℕ
+  pub stop : ℕ
+  pub is : IsLineAt end bytes s e stop
+  pub front : AreWhole end (take s bytes)
+  pub without : AreWithoutRow end (finder_row finder) (take s bytes)
+  pub holds : HoldsRow (finder_row finder) (take (e - s) (drop s bytes))
+  pub enough : found.is_enough ≡ finder.is_enough
   pub starts : found.line.start ≡ at + s
   pub ends : found.line.end ≡ at + stop
 
@@ -98,3 +119,38 @@ IsNextWith fold end literals at bytes (Found found) =
     × IsFirstWith fold end literals at (drop at bytes) found
 IsNextWith fold end literals at bytes Nowhere = AreWithout fold end literals (drop at bytes)
 IsNextWith fold end literals at bytes GaveUp = Unit {0}
+
+-- the same of a line that holds a finder's row
+abbrev pub IsNextWithRow : {A : Type 0} → ℕ → RowFinder A → ℕ → List ℕ → NextLine → Type 0
+IsNextWithRow end finder at bytes (Found found) =
+    (at ≤ found.line.start) × (found.line.start < found.line.end) × (found.line.end ≤ length bytes)
+    × IsFirstWithRow end finder at (drop at bytes) found
+IsNextWithRow end finder at bytes Nowhere = AreWithoutRow end (finder_row finder) (drop at bytes)
+IsNextWithRow end finder at bytes GaveUp = Unit {0}
+
+-- the literals that needles are of
+abbrev pub literals_sought : {A : Type 0} → Needles A → List LiteralData
+literals_sought (Few list) = map literal_of list.needles.items
+literals_sought (Many set) = set_literals set.literals.now
+literals_sought (Row row) = []
+literals_sought GivenUp = []
+literals_sought TooSlow = []
+
+-- the finder whose row they are, if they are one
+abbrev pub row_sought : {A : Type 0} → Needles A → Option (RowFinder A)
+row_sought (Few list) = None
+row_sought (Many set) = None
+row_sought (Row row) = Some row.finder.now
+row_sought GivenUp = None
+row_sought TooSlow = None
+
+-- the first line that holds one of the literals, or the row, that needles are of; none is looked for where they were
+-- given up
+abbrev pub IsNextSought : {A : Type 0} → SearchText → Needles A → ℕ → List ℕ → NextLine → Type 0
+IsNextSought text (Few list) at bytes next =
+    IsNextWith text.fold (terminator_of text) (map literal_of list.needles.items) at bytes next
+IsNextSought text (Many set) at bytes next =
+    IsNextWith text.fold (terminator_of text) (set_literals set.literals.now) at bytes next
+IsNextSought text (Row row) at bytes next = IsNextWithRow (terminator_of text) row.finder.now at bytes next
+IsNextSought text GivenUp at bytes next = next ≡ GaveUp
+IsNextSought text TooSlow at bytes next = next ≡ GaveUp

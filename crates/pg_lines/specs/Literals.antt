@@ -57,12 +57,16 @@ TellHeads text literals =
 abbrev pub finder_row : {A : Type 0} → RowFinder A → List (ℕ → Bool)
 finder_row finder = row_along finder.sets.items
 
+-- the row stands somewhere in the line
+abbrev pub HoldsRow : List (ℕ → Bool) → List ℕ → Type 0
+HoldsRow row line = (i : ℕ) × StandsAt line row i
+
 -- A row that isn't empty and has no terminator. It stands in each line with a hit, and its flag says truly whether each
 -- line in which it stands has one.
 pub record IsRowOf {A : Type 0} (text : SearchText) (finder : RowFinder A) : Type 0 where
   pub some : 0 < length (finder_row finder)
   pub within : All (λ set. set (terminator_of text) ≡ true → ⊥) (finder_row finder)
   pub needed : (trees : List Pattern) → AreTreesOf text trees → (line : List ℕ) → IsLine (terminator_of text) line
-      → HasHit (search_of text trees) line → (i : ℕ) × StandsAt line (finder_row finder) i
-  pub enough : IsTrue finder.is_enough → (trees : List Pattern) → AreTreesOf text trees → (line : List ℕ) (i : ℕ)
-      → StandsAt line (finder_row finder) i → HasHit (search_of text trees) line
+      → HasHit (search_of text trees) line → HoldsRow (finder_row finder) line
+  pub enough : IsTrue finder.is_enough → (trees : List Pattern) → AreTreesOf text trees → (line : List ℕ)
+      → HoldsRow (finder_row finder) line → HasHit (search_of text trees) line

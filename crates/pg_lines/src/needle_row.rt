@@ -1,7 +1,8 @@
 //! Where a row of sets stands in a block.
 ghost use Rattle.std.specs.Prelude.{◌≡◌, ◌≤◌, length};
+ghost use Rattle.pg_selection.specs.Search.{terminator_of};
 ghost use Rattle.pg_lines.specs.Literals.{IsRowOf};
-ghost use Rattle.pg_lines.specs.Finding.{IsNextCandidate};
+ghost use Rattle.pg_lines.specs.Candidates.{IsNextWithRow};
 
 use crate::needle::Candidate;
 use crate::needle_set::NextLine;
@@ -43,7 +44,7 @@ impl<'n, A: Allocator> NeedleRow<'n, A> {
         requires at { at ≤ length bytes.now }
         requires row { IsRowOf query.now.text self.old.finder.now }
         ensures finder { self.new.finder ≡ self.old.finder }
-        ensures next { IsNextCandidate query.now.text at bytes.now result }
+        ensures next { IsNextWithRow (terminator_of query.now.text) self.old.finder.now at bytes.now result }
     {
         if self.close >= CROWD && !self.finder.is_enough {
             return NextLine::GaveUp;

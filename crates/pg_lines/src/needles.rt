@@ -3,8 +3,7 @@ ghost use Rattle.std.specs.Prelude.{◌≡◌, ◌<◌, ◌≤◌, ℕ, List, le
 ghost use Rattle.pg_literal.specs.Literals.{as_searched};
 ghost use Rattle.pg_selection.specs.Search.{SearchText};
 ghost use Rattle.pg_lines.specs.Literals.{AreLiterals, IsRowOf, data_of, set_literals};
-ghost use Rattle.pg_lines.specs.Candidates.{AreNeedles, AreSome};
-ghost use Rattle.pg_lines.specs.Finding.{IsNextCandidate};
+ghost use Rattle.pg_lines.specs.Candidates.{AreNeedles, AreSome, IsNextSought, literals_sought, row_sought};
 
 use crate::literal_set::LiteralSet;
 use crate::needle::NeedleList;
@@ -90,14 +89,16 @@ impl<'n, A: Allocator> Needles<'n, A> {
         }
     }
 
-    /// The first line at or behind a place that may have a hit, as they tell: it holds a literal, or the row.
+    /// The first line at or behind a place that holds one of the literals, or the row, that they are of.
     pub fn next_line(&mut self, query: &Query<A>, bytes: &[u8], at: usize) -> NextLine
         requires at { at ≤ length bytes.now }
         requires needles { AreNeedles query.now.text bytes.now at self.old }
         requires some { AreSome self.old }
         ensures needles { AreNeedles query.now.text bytes.now at self.new }
         ensures some { AreSome self.new }
-        ensures next { IsNextCandidate query.now.text at bytes.now result }
+        ensures literals { literals_sought self.new ≡ literals_sought self.old }
+        ensures row { row_sought self.new ≡ row_sought self.old }
+        ensures next { IsNextSought query.now.text self.new at bytes.now result }
     {
         match self {
             Needles::Few(list) => match list.next_line(query, bytes, at) {

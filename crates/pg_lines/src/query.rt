@@ -198,6 +198,11 @@ impl<A: Allocator> Query<A> {
     {
         self.row.as_ref()
     }
+
+    /// Whether lines are looked for by such a row, and not by many literals. It decides about speed alone.
+    pub fn has_row(&self) -> bool {
+        self.row.is_some() && self.literal_set.is_none()
+    }
 }
 
 /// The selector of a text each of whose patterns is an expression.

@@ -15,7 +15,7 @@ use Rattle.pg_grammar.specs.declared.pattern_list.Kind.TheVariants.{Fixed}
 use Rattle.pg_pattern.specs.Matches.{Match, Chain}
 use Rattle.pg_literal.proofs.RowLemmas.{stands_within}
 use Rattle.pg_literal.specs.Rows.{StandsAt, row_of}
-use Rattle.pg_literal.specs.Known.{head_of, sets_of, HasRows, IsSureAt, MatchesEmpty, Extends, Hides, HidesOthers}
+use Rattle.pg_literal.specs.Known.{head_of, sets_of, HasRows, IsSureAt, MatchesEmpty, Extends, Hides, HidesLast}
 use Rattle.pg_literal.specs.Known.{MatchesSet, Repeats}
 use Rattle.pg_literal.specs.declared.known.MatchFacts.{MatchFacts}
 
@@ -382,19 +382,19 @@ module _ {A : Type 0} (fold : Bool) where
 
   -- a repetition of which some first rounds are known
   pub extends_rounds : (p : Pattern) (n rounds least : ℕ) (most : Option ℕ) (rest hidden behind whole : MatchFacts A)
-      → rounds ≡ suc n → rounds ≤ least → HidesOthers fold p rounds least most rest hidden
+      → rounds ≡ suc n → rounds ≤ least → HidesLast fold p rounds least most rest hidden
       → Repeats fold p n hidden behind → Extends fold p behind whole → Extends fold (Rep p least most) rest whole
-  extends_rounds p n rounds least most rest hidden behind whole size some (inl single) others first =
+  extends_rounds p n rounds least most rest hidden behind whole size some (inl (inl single)) others first =
       let all : Repeats fold p (suc n) hidden whole = (behind, others, first) in
       rw (single.0, single.1)
       (extends_exactly p rounds rest whole
       (subst (λ k. Repeats fold p k rest whole) (sym size)
       (subst (λ known. Repeats fold p (suc n) known whole) single.2 all)))
-  extends_rounds p n rounds least most rest hidden behind whole size some (inr (inr last)) others first =
+  extends_rounds p n rounds least most rest hidden behind whole size some (inr last) others first =
       let all : Repeats fold p (suc n) hidden whole = (behind, others, first) in
       extends_last p rounds least most rest last.0 hidden whole (omega arith) some last.1 last.2
       (subst (λ k. Repeats fold p k hidden whole) (sym size) all)
-  extends_rounds p n rounds least most rest hidden behind whole size some (inr (inl hides)) others first =
+  extends_rounds p n rounds least most rest hidden behind whole size some (inl (inr hides)) others first =
       let all : Repeats fold p (suc n) hidden whole = (behind, others, first) in
       extends_more p rounds least most hides.0 rest hidden whole some hides.1 hides.2
       (subst (λ k. Repeats fold p k hidden whole) (sym size) all)

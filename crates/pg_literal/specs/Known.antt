@@ -77,12 +77,17 @@ Repeats {A} fold p (suc count) rest whole =
     (known : MatchFacts A) × Repeats fold p count rest known × Extends fold p known whole
 
 -- The rounds of a repetition behind its first ones, if there may be any, hide the rest; they are optional where the
--- first ones are enough. Or they hide the rest with the last round in front of it.
-abbrev pub HidesOthers : {A : Type 0} → Bool → Pattern → ℕ → ℕ → Option ℕ → MatchFacts A → MatchFacts A → Type 0
-HidesOthers {A} fold p rounds least most rest whole =
+-- first ones are enough.
+abbrev pub HidesOthers : {A : Type 0} → ℕ → ℕ → Option ℕ → MatchFacts A → MatchFacts A → Type 0
+HidesOthers rounds least most rest whole =
     ((least ≡ rounds) × (most ≡ Some rounds) × (whole ≡ rest))
     ⊎ ((is_optional : Bool) × (IsTrue is_optional → (least ≡ rounds) × IfSome most (λ most. rounds ≤ most))
     × Hides is_optional rest whole)
+
+-- the same, or they hide the rest with the last round in front of it
+abbrev pub HidesLast : {A : Type 0} → Bool → Pattern → ℕ → ℕ → Option ℕ → MatchFacts A → MatchFacts A → Type 0
+HidesLast {A} fold p rounds least most rest whole =
+    HidesOthers rounds least most rest whole
     ⊎ ((last : MatchFacts A) × Extends fold p rest last × Hides false last whole)
 
 -- with the pattern in front once more all rounds of a repetition are

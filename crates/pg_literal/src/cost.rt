@@ -82,7 +82,7 @@ const COMMON: usize = CERTAIN / 8;
 const SETS: usize = 250;
 
 /// What it costs to compare a row where bytes of these sets stand.
-const TRIED: usize = 8_000;
+const COMPARING: usize = 8_000;
 
 /// The chance of a byte, in parts of 2^32. Controls and bytes above 127 are taken for rare ones: where they aren't,
 /// that soon shows.
@@ -132,7 +132,7 @@ pub(crate) fn are_cheap<A: Allocator>(literals: &[Literal<A>]) -> bool {
 
 /// What is paid for each byte that is passed in the search for the only byte of a set, and for trying a row there.
 pub(crate) fn byte_cost(set: &ByteSet) -> usize {
-    ONE.saturating_add(TRIED.saturating_mul(chance_in(set) >> 16) >> 16)
+    ONE.saturating_add(COMPARING.saturating_mul(chance_in(set) >> 16) >> 16)
 }
 
 /// The same in the search for bytes of two sets.
@@ -148,7 +148,7 @@ pub(crate) fn sets_cost(near: CoveredSet, far: CoveredSet, is_enough: bool) -> u
     if both > bound {
         NO_TEXT
     } else {
-        SETS.saturating_add(TRIED.saturating_mul(both >> 16) >> 16)
+        SETS.saturating_add(COMPARING.saturating_mul(both >> 16) >> 16)
     }
 }
 

@@ -22,7 +22,7 @@ pub(crate) struct OnlyByte {
     pub byte: u8,
 }
 
-/// The set at a place of a row, covered.
+/// The set at a place of a row, which has it, covered.
 pub(crate) fn covered_at(sets: &[ByteSet], offset: usize) -> CoveredSet
     requires { offset < length sets.now }
     ensures set { IsCoveredSet (row_along sets.now) result }
@@ -34,7 +34,7 @@ pub(crate) fn covered_at(sets: &[ByteSet], offset: usize) -> CoveredSet
     }
 }
 
-/// The only byte of the set at a place of a row, if it has one.
+/// The only byte of the set at a place of a row, which has that place, if the set has but one.
 pub(crate) fn only_byte_at(sets: &[ByteSet], offset: usize) -> Option<OnlyByte>
     requires { offset < length sets.now }
     ensures { IfSome result (IsOnlyByte (row_along sets.now)) }
@@ -43,7 +43,7 @@ pub(crate) fn only_byte_at(sets: &[ByteSet], offset: usize) -> Option<OnlyByte>
     Some(OnlyByte { offset, byte })
 }
 
-/// The places of the two rarest sets of a row, the rarer one first.
+/// The places of the two rarest sets of a row of one or more, the rarer one first; twice the same of a row of one.
 pub(crate) fn rarest_two(sets: &[ByteSet]) -> (usize, usize)
     requires { 0 < length sets.now }
     ensures { (result.0 < length sets.now) × (result.1 < length sets.now) }

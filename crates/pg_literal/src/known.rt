@@ -2,12 +2,12 @@
 ghost use Rattle.std.specs.Prelude.{◌≡◌, ◌≤◌, ℕ, Bool, List, [], ◌∷◌, map, min, reverse, IsTrue, IfOk, IfSome};
 ghost use Rattle.std.specs.Prelude.{IsSomeAnd};
 ghost use Rattle.pg_bytes.specs.ByteSets.{bytes};
-ghost use Rattle.pg_pattern.specs.Patterns.{Pattern, Begin, End, Set};
+ghost use Rattle.pg_pattern.specs.Patterns.{Begin, End, Set};
 ghost use Rattle.pg_pattern.specs.Trees.{pattern};
 ghost use Rattle.pg_literal.specs.Literals.{as_searched};
 ghost use Rattle.pg_literal.specs.Rows.{AreProduct};
-ghost use Rattle.pg_literal.specs.Known.{head_of, sets_of, IsNothing, Extends, Hides, HidesOthers, MatchesEmpty};
-ghost use Rattle.pg_literal.specs.Known.{IsChosen, LacksFirst, Repeats};
+ghost use Rattle.pg_literal.specs.Known.{head_of, sets_of, IsNothing, Extends, Hides, HidesLast, HidesOthers};
+ghost use Rattle.pg_literal.specs.Known.{IsChosen, LacksFirst, MatchesEmpty, Repeats};
 
 use crate::row::{Expansion, Window, Worth, only_text, widest, widest_or_whole};
 use crate::sets::set_of;
@@ -115,7 +115,7 @@ impl<A: Allocator + Copy> MatchFacts<A> {
         least: u8,
         most: Option<u8>,
     ) -> MatchFacts<A>
-        ensures { (fold : Bool) (p : Pattern) → HidesOthers fold p rounds least most self result }
+        ensures { HidesOthers rounds least most self result }
     {
         if least == rounds && most == Some(rounds) {
             self
@@ -134,7 +134,7 @@ impl<A: Allocator + Copy> MatchFacts<A> {
         least: u8,
         most: Option<u8>,
     ) -> Result<MatchFacts<A>, AllocError>
-        ensures { (fold : Bool) → IfOk result (HidesOthers fold (Set (bytes set.now)) (min least 32) least most self) }
+        ensures { (fold : Bool) → IfOk result (HidesLast fold (Set (bytes set.now)) (min least 32) least most self) }
     {
         let rounds = least.min(ROUNDS);
         if most == Some(rounds) || self.head.is_empty() {

@@ -57,7 +57,7 @@ fn longest_gaps(set: &ByteSet) -> (Gap, Gap) {
     (first, second)
 }
 
-/// The least range with each byte of a set among so many from a start on.
+/// The least range with each byte of a set among so many from a start on, at most 256.
 fn range_among(set: &ByteSet, start: u8, count: u16) -> ByteRange
     requires { count ≤ 256 }
     ensures { (k : ℕ) → k < count → bytes set.now ((start + k) % 256) ≡ true
@@ -114,7 +114,7 @@ impl Cover {
             || byte.wrapping_sub(self.second.low) <= self.second.span
     }
 
-    /// For each of the 32 bytes from a place on one where it is covered, and zero elsewhere.
+    /// For each of the 32 bytes from a place on, which are there, one where it is covered, and zero elsewhere.
     #[inline(always)]
     fn marks(self, bytes: &[u8], at: usize) -> u8x32
         requires { at + 32 ≤ length bytes.now }
@@ -126,7 +126,7 @@ impl Cover {
 }
 
 /// How many of the 32 places from one on come before the first with a covered byte and another one, covered too, behind
-/// it at a distance; 32 where there is none.
+/// it at a distance; 32 where there is none. As many bytes have to be there.
 #[inline(always)]
 pub(crate) fn uncovered_places(
     near: Cover,

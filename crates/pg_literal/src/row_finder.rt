@@ -41,12 +41,12 @@ pub struct RowFinder<A: Allocator = Global> {
     ghost only_is: { IfSome only (IsOnlyByte (row_along sets.items)) } by { Prim.hlevel props },
 }
 
-/// How far the search for the next place has come at which a row may stand.
+/// How many places the search for one at which a row may stand goes on by.
 #[derive(Clone, Copy)]
-struct Passed {
-    /// How many places were passed, at which it doesn't.
+struct Skip {
+    /// So many, at none of which it stands.
     places: usize,
-    /// It may stand at the next one.
+    /// It may stand at the next one behind them.
     is_candidate: bool,
 }
 
@@ -90,8 +90,8 @@ fn is_enough(is_sure: bool, bounds: Bounds) -> bool
     }
 }
 
-/// The only byte of the set at a place of a row, if it has one, and is found sooner by that than a row by two sets at a
-/// cost.
+/// The only byte of the set at a place of a row, which has that place, if the set has but one and is found sooner by
+/// it than the row by two sets at a cost.
 fn cheaper_byte(sets: &[ByteSet], offset: usize, by_sets: usize) -> Option<OnlyByte>
     requires { offset < length sets.now }
     ensures { IfSome result (IsOnlyByte (row_along sets.now)) }
@@ -187,7 +187,7 @@ impl<A: Allocator> RowFinder<A> {
         }
     }
 
-    /// Whether the row stands at a place of some bytes.
+    /// Whether the row stands at a place of some bytes, or at their end.
     fn stands_at(&self, bytes: &[u8], at: usize) -> bool
         requires { at ≤ length bytes.now }
         ensures { IsTrue result ↔ StandsAt bytes.now (row_along self.now.sets.items) at }
@@ -203,8 +203,8 @@ impl<A: Allocator> RowFinder<A> {
         true
     }
 
-    /// The places that are passed up to the next byte that is the only one of its set.
-    fn pass_by_byte(&self, only: OnlyByte, bytes: &[u8], at: usize) -> Passed
+    /// On to the next byte that is the only one of its set, from a place whose own such byte is there.
+    fn skip_by_byte(&self, only: OnlyByte, bytes: &[u8], at: usize) -> Skip
         requires only { IsOnlyByte (row_along self.now.sets.items) only }
         requires within { at + only.offset < length bytes.now }
         ensures within { at + result.places ≤ length bytes.now }
@@ -214,20 +214,20 @@ impl<A: Allocator> RowFinder<A> {
     {
         let rest = &bytes[at + only.offset..];
         match memchr(only.byte, rest) {
-            Some(places) => Passed {
+            Some(places) => Skip {
                 places,
                 is_candidate: true,
             },
-            None => Passed {
+            None => Skip {
                 places: rest.len(),
                 is_candidate: false,
             },
         }
     }
 
-    /// Those of the next 32 places that are passed up to one at which bytes of both rare sets stand.
+    /// On to the first of the next 32 places at which bytes of both rare sets stand, all of which are there.
     #[inline(always)]
-    fn pass_by_sets(&self, bytes: &[u8], at: usize) -> Passed
+    fn skip_by_sets(&self, bytes: &[u8], at: usize) -> Skip
         requires { at + self.now.far.offset + 32 ≤ length bytes.now }
         ensures within { at + result.places ≤ length bytes.now }
         ensures candidate { IsTrue result.is_candidate → at + result.places < length bytes.now }
@@ -237,15 +237,15 @@ impl<A: Allocator> RowFinder<A> {
         let distance = self.far.offset - self.near.offset;
         let start = at + self.near.offset;
         let places = uncovered_places(self.near.cover, self.far.cover, distance, bytes, start);
-        Passed {
+        Skip {
             places,
             is_candidate: places < LANES,
         }
     }
 
-    /// The places that are passed up to one at which the row may stand.
+    /// On to a place at which the row may stand, from one behind which it and 32 bytes more have room.
     #[inline(always)]
-    fn next_candidate(&self, bytes: &[u8], at: usize) -> Passed
+    fn next_candidate(&self, bytes: &[u8], at: usize) -> Skip
         requires { at + length self.now.sets.items + 32 ≤ length bytes.now }
         ensures within { at + result.places ≤ length bytes.now }
         ensures candidate { IsTrue result.is_candidate → at + result.places < length bytes.now }
@@ -253,12 +253,12 @@ impl<A: Allocator> RowFinder<A> {
         ensures some { result.is_candidate ≡ false → 0 < result.places }
     {
         match self.only {
-            Some(only) => self.pass_by_byte(only, bytes, at),
-            None => self.pass_by_sets(bytes, at),
+            Some(only) => self.skip_by_byte(only, bytes, at),
+            None => self.skip_by_sets(bytes, at),
         }
     }
 
-    /// The first place at or behind one at which the row stands, where each is tried.
+    /// The first place at or behind one of some bytes, or their end, at which the row stands, where each is tried.
     fn find_by_trying(&self, bytes: &[u8], from: usize) -> Option<usize>
         requires { from ≤ length bytes.now }
         ensures { IsFirst (StandsAt bytes.now (row_along self.now.sets.items)) from (length bytes.now) result }
@@ -271,8 +271,8 @@ impl<A: Allocator> RowFinder<A> {
         None
     }
 
-    /// The first place at or behind one at which the row stands. The search is given up where its rarest bytes stand so
-    /// close together, and in vain, that the automaton would be faster.
+    /// The first place at or behind one of some bytes, or their end, at which the row stands. The search is given up
+    /// where its rarest bytes stand so close together, and in vain, that the automaton would be faster.
     pub fn find(&self, bytes: &[u8], from: usize) -> RowOutcome
         requires { from ≤ length bytes.now }
         ensures { FindsRow bytes.now (row_along self.now.sets.items) from result }
@@ -280,9 +280,9 @@ impl<A: Allocator> RowFinder<A> {
         let mut at = from;
         let mut tries = 0;
         while bytes.len() - at >= LANES + self.sets.len() {
-            let passed = self.next_candidate(bytes, at);
-            at += passed.places;
-            if passed.is_candidate {
+            let skip = self.next_candidate(bytes, at);
+            at += skip.places;
+            if skip.is_candidate {
                 if self.stands_at(bytes, at) {
                     return RowOutcome::Found(at);
                 }

@@ -198,8 +198,8 @@ impl<A: Allocator> Cache<A> {
         0
     }
 
-    /// Makes room for a row with the states of a set, if there may be so many. Else the table stays as it is. Memory was
-    /// asked for when the table was made.
+    /// Makes room for a row with the states of a set, if there may be so many. Else the table stays as it is. Memory
+    /// was asked for when the table was made.
     fn make_room(&mut self, set: &StateSet<A>) -> bool
         requires shape { IsShape (length set.now.marks.items) (remembered self.old) }
         ensures widened { IsTrue result → Widened (remembered self.old) (remembered self.new) }

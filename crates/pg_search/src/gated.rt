@@ -46,8 +46,12 @@ impl<A: Allocator + Copy, G: Gate> BlockSearch for GatedQuery<'_, A, G> {
     }
 
     /// Whether the machine is likely to be asked about most lines. Of other queries one thread finds the lines as fast
-    /// as they are read; also of most lists of fixed strings, which have too many literals to tell.
+    /// as they are read; also of most lists of fixed strings, which have too many literals to tell, and of rows of
+    /// sets.
     fn is_slow(&self) -> bool {
+        if self.query.has_row() {
+            return false;
+        }
         let literals = self.query.literals();
         if literals.is_empty() {
             return self.query.text().kind != Kind::Fixed;

@@ -7,7 +7,7 @@ use Rattle.pg_blocks.specs.declared.span.Span.{Span}
 use Rattle.pg_lines.proofs.CandidateLemmas.{IsSkipped, skipped_all, skipped_some, skipped_more}
 use Rattle.pg_lines.proofs.CandidateLemmas.{first_selected, first_enough, first_short, found_text}
 use Rattle.pg_lines.proofs.JudgeLemmas.{judges_front}
-use Rattle.pg_lines.proofs.SoughtLemmas.{needles_later}
+use Rattle.pg_lines.proofs.SoughtLemmas.{needles_later, next_sought}
 use Rattle.pg_lines.proofs.search.next_confirmed.Goals as goal
 use Rattle.pg_lines.proofs.search.next_confirmed.Goals.{then-found-via-then-found}
 use Rattle.pg_lines.proofs.search.next_confirmed.Goals.{then-found-via-else-found+then-has_hit}
@@ -19,7 +19,8 @@ returns-in-Nowhere-clause-found g c = λ trees spelled.
     let from = c.loop-in_vain.from in
     let i = c.loop-in_vain.invariant in
     skipped_all (search_of (uninverted text) trees) c.args.at from bytes (i.skipped trees spelled)
-    (c.in-Nowhere.ensures.next trees spelled)
+    (next_sought text bytes from c.next_line.new.self _ c.in-Nowhere.ensures.needles c.in-Nowhere.ensures.some
+    c.in-Nowhere.ensures.next trees spelled)
 
 pub has_hit-requires-clause-short : goal.has_hit-requires-clause-short
 has_hit-requires-clause-short g c =
@@ -29,7 +30,9 @@ has_hit-requires-clause-short g c =
     let i = c.loop-in_vain.invariant in
     let from = c.loop-in_vain.from in
     let found = c.in-Found.found in
-    let first = c.in-Found.ensures.next.3 in
+    let next = next_sought text bytes from c.next_line.new.self _ c.in-Found.ensures.needles c.in-Found.ensures.some
+    c.in-Found.ensures.next in
+    let first = next.3 in
     let cut = found_text text from bytes found c.terminator-end.result c.text_of-text.result.now
     c.terminator-end.ensures first c.text_of-text.ensures.text in
     let P : List ℕ → Type 0 = λ l. length l ≤ 2 ^ 30 in
@@ -43,8 +46,9 @@ returns-then-found-clause-found g c =
     let i = c.loop-in_vain.invariant in
     let from = c.loop-in_vain.from in
     let found = c.in-Found.found in
-    let first = c.in-Found.ensures.next.3 in
-    let next = c.in-Found.ensures.next in
+    let next = next_sought text bytes from c.next_line.new.self _ c.in-Found.ensures.needles c.in-Found.ensures.some
+    c.in-Found.ensures.next in
+    let first = next.3 in
     record {
       within = (omega (arith, i.low, next.0), next.1, next.2);
       first = λ trees spelled.
@@ -68,10 +72,11 @@ loop-in_vain-preserved g c =
     let i = c.loop-in_vain.invariant in
     let from = c.loop-in_vain.from in
     let found = c.in-Found.found in
-    let first = c.in-Found.ensures.next.3 in
+    let next = next_sought text bytes from c.next_line.new.self _ c.in-Found.ensures.needles c.in-Found.ensures.some
+    c.in-Found.ensures.next in
+    let first = next.3 in
     let cut = found_text text from bytes found c.terminator-end.result c.text_of-text.result.now
     c.terminator-end.ensures first c.text_of-text.ensures.text in
-    let next = c.in-Found.ensures.next in
     record {
       fits = c.has_hit.ensures.fits;
       low = omega (arith, i.low, next.0, next.1);
@@ -118,7 +123,8 @@ returns-in-Nowhere-clause-needles g c = tt
 pub has_hit-requires-clause-line : goal.has_hit-requires-clause-line
 has_hit-requires-clause-line g c =
     let line = c.in-Found.found.line in
-    let next = c.in-Found.ensures.next in
+    let next = next_sought c.args.query.now.text c.args.bytes.now c.loop-in_vain.from c.next_line.new.self _
+    c.in-Found.ensures.needles c.in-Found.ensures.some c.in-Found.ensures.next in
     let text = c.text_of-text.ensures in
     judges_front c.args.query.now.text c.args.bytes.now c.args.strings.now c.requires.ready.strings
     c.text_of-text.result.now

@@ -1,4 +1,4 @@
-use Rattle.std.proofs.Common.{◌-◌, arith, rules, refl}
+use Rattle.std.proofs.Common.{◌-◌, inl, arith, rules, refl}
 use Rattle.pg_pattern.proofs.PatternLemmas.{pattern-set}
 use Rattle.pg_literal.proofs.KnownLemmas.{extends_rounds}
 use Rattle.pg_literal.proofs.known.with_later_rounds.Goals as goal
@@ -14,4 +14,4 @@ returns-in_ok-behind-in-Set g c = λ fold whole first.
 
 pub returns-in_default : goal.returns-in_default
 returns-in_default g c = λ fold whole first.
-    extends_rounds fold _ 0 1 _ _ _ _ _ _ refl (search rules) (c.with_other_rounds.ensures fold _) refl first
+    extends_rounds fold _ 0 1 _ _ _ _ _ _ refl (search rules) (inl c.with_other_rounds.ensures) refl first

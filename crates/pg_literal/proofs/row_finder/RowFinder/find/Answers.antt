@@ -8,9 +8,9 @@ pub returns-then-stands_at : goal.returns-then-stands_at
 returns-then-stands_at g c = (
   record {
     low = omega (arith, c.loop-at.invariant.behind);
-    high = c.next_candidate-passed.ensures.candidate c.if-passed.true;
+    high = c.next_candidate-skip.ensures.candidate c.if-skip.true;
     before = nowhere_more c.args.bytes.now (row_along c.args.self.now.sets.items) c.args.from c.loop-at.at
-        c.next_candidate-passed.result.places c.loop-at.invariant.nowhere c.next_candidate-passed.ensures.none;
+        c.next_candidate-skip.result.places c.loop-at.invariant.nowhere c.next_candidate-skip.ensures.none;
   },
   c.if-stands_at.ensures.0 refl,
 )
@@ -19,12 +19,12 @@ pub loop-at-preserved-else-tries-at : goal.loop-at-preserved-else-tries-at
 loop-at-preserved-else-tries-at g c =
     let row = row_along c.args.self.now.sets.items in
     let bytes = c.args.bytes.now in
-    let next = c.loop-at.at + c.next_candidate-passed.result.places in
+    let next = c.loop-at.at + c.next_candidate-skip.result.places in
     let before = nowhere_more bytes row c.args.from c.loop-at.at
-    c.next_candidate-passed.result.places c.loop-at.invariant.nowhere c.next_candidate-passed.ensures.none in
+    c.next_candidate-skip.result.places c.loop-at.invariant.nowhere c.next_candidate-skip.ensures.none in
     record {
       behind = omega (arith, c.loop-at.invariant.behind);
-      within = omega (arith, c.next_candidate-passed.ensures.candidate c.if-passed.true);
+      within = omega (arith, c.next_candidate-skip.ensures.candidate c.if-skip.true);
       nowhere = λ k low high o. elim (cases_lt k next) [
         | inl less ↦ before k low less o
         | inr more ↦
@@ -36,7 +36,7 @@ loop-at-preserved-else-tries-at g c =
 pub loop-at-preserved : goal.loop-at-preserved
 loop-at-preserved g c = record {
   behind = omega (arith, c.loop-at.invariant.behind);
-  within = c.next_candidate-passed.ensures.within;
+  within = c.next_candidate-skip.ensures.within;
   nowhere = nowhere_more c.args.bytes.now (row_along c.args.self.now.sets.items) c.args.from c.loop-at.at
-      c.next_candidate-passed.result.places c.loop-at.invariant.nowhere c.next_candidate-passed.ensures.none;
+      c.next_candidate-skip.result.places c.loop-at.invariant.nowhere c.next_candidate-skip.ensures.none;
 }

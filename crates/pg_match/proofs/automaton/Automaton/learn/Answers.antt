@@ -14,8 +14,8 @@ returns-then-hits_before-clause-memory g c =
     let old = remembered c.args.memory.now in
     let r = c.args.row in
     let s = members c.load.new.set in
-    memory_marked m old (remembered c.mark.new.self) r c.args.byte 1 c.requires.memory c.mark.ensures.marked c.requires.known
-    (omega arith)
+    memory_marked m old (remembered c.mark.new.self) r c.args.byte 1 c.requires.memory c.mark.ensures.marked
+    c.requires.known (omega arith)
     (inr (inl (
       refl,
       hit_there m c.args.byte (In old r) (Has s) c.load.ensures.same

@@ -10,4 +10,5 @@ write-requires-clause-shape g c =
 pub returns-clause-grown : goal.returns-clause-grown
 returns-clause-grown g c = λ t.
     grown_widened _ (remembered c.args.self.now) (remembered c.make_room.new.self) (remembered c.write.new.self)
-    (members c.args.set.now) c.args.is_fresh (c.make_room.ensures.widened c.if-not-make_room.false) c.write.ensures.grown
+    (members c.args.set.now) c.args.is_fresh (c.make_room.ensures.widened c.if-not-make_room.false)
+    c.write.ensures.grown

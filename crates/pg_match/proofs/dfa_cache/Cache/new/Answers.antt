@@ -1,4 +1,5 @@
-use Rattle.std.proofs.Common.{◌≡◌, ◌-◌, Bool, Option, None, Some, ◌∙◌, ◌++◌, ap, arith, length, refl, replicate, sym, take, rules}
+use Rattle.std.proofs.Common.{◌≡◌, ◌-◌, Bool, Option, None, Some, ◌∙◌, ◌++◌, ap, arith, length, refl, replicate}
+use Rattle.std.proofs.Common.{sym, take, rules}
 use Rattle.std.specs.Vec.{vec_len}
 use Rattle.pg_match.proofs.CacheLemmas.{blank_table, zeros, nones}
 use Rattle.pg_match.proofs.dfa_cache.Cache.new.Goals as goal
@@ -20,7 +21,8 @@ returns g c =
     ∙ ap (λ xs. take 256 xs ++ replicate (256 - vec_len c.in_ok-steps.steps) 0) c.in_ok-steps.ensures.items in
     blank_table _ (omega (arith, c.in_ok-resize.ensures.len, c.resize.new.self.ok.0))
     (omega (arith, c.in_ok-ends.ensures.len)) (omega (arith, none)) (omega (arith, c.in_ok-cuts.ensures.len))
-    (omega (arith, c.in_ok-fresh.ensures.len)) refl (zeros _ _ steps) (nones _ 257 l) (zero 0 ∙ sym (zero 1)) (omega (arith, zero 1))
+    (omega (arith, c.in_ok-fresh.ensures.len)) refl (zeros _ _ steps) (nones _ 257 l) (zero 0 ∙ sym (zero 1))
+    (omega (arith, zero 1))
 
 pub overflow_add-vec : goal.overflow_add-vec
 overflow_add-vec g c = omega arith

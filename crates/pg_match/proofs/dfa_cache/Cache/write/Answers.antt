@@ -12,7 +12,8 @@ returns-clause-grown g c =
     let start = get_or_read mem.cuts (mem.count + 1) c.index.result.now
     (omega (arith, shape.cuts_size, shape.few)) c.index.ensures 0 in
     let end : c.loop-k.k ≡ s.len = omega arith in
-    let copy = subst (λ v. Copying mem (remembered c.loop-k.self) s c.index.result.now v) end c.loop-k.invariant.copying in
+    let copy = subst (λ v. Copying mem (remembered c.loop-k.self) s c.index.result.now v) end
+    c.loop-k.invariant.copying in
     grown _ mem (remembered c.loop-k.self) _ s c.index.result.now c.args.is_fresh shape c.requires.good refl start
     c.requires.room copy refl refl refl refl refl refl
 

@@ -2,7 +2,7 @@ use Rattle.std.proofs.Common.{◌+◌, ap, arith, length, length-drop}
 use Rattle.std.proofs.lemmas.List.{take_rest}
 use Rattle.pg_literal.specs.Rows.{row_along}
 use Rattle.pg_literal.proofs.FinderLemmas.{only_elsewhere}
-use Rattle.pg_literal.proofs.row_finder.RowFinder.pass_by_byte.Goals as goal
+use Rattle.pg_literal.proofs.row_finder.RowFinder.skip_by_byte.Goals as goal
 
 pub returns-in-Some-clause-within : goal.returns-in-Some-clause-within
 returns-in-Some-clause-within g c =

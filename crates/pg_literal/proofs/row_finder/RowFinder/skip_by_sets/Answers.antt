@@ -2,7 +2,7 @@ use Rattle.std.proofs.Common.{◌≡◌, ◌+◌, ◌-◌, true, get_or, subst, 
 use Rattle.pg_literal.specs.Ranges.{covered}
 use Rattle.pg_literal.specs.Rows.{row_along}
 use Rattle.pg_literal.proofs.FinderLemmas.{each_stands}
-use Rattle.pg_literal.proofs.row_finder.RowFinder.pass_by_sets.Goals as goal
+use Rattle.pg_literal.proofs.row_finder.RowFinder.skip_by_sets.Goals as goal
 
 pub returns-clause-none : goal.returns-clause-none
 returns-clause-none g c = λ k less stands.
