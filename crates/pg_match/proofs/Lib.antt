@@ -8,6 +8,7 @@ pub mod StepLemmas
 pub mod StandsLemmas
 pub mod StartLemmas
 pub mod CacheLemmas
+pub mod VisitLemmas
 pub mod ScanLemmas
 pub mod LineLemmas
 pub mod CursorLemmas

@@ -6,7 +6,8 @@ use Rattle.pg_match.specs.Views.{nfa, members, remembered}
 use Rattle.pg_match.proofs.StateSetLemmas.{few}
 use Rattle.pg_match.proofs.StandsLemmas.{stands_next, run_before}
 use Rattle.pg_match.proofs.StartLemmas.{stands_whole}
-use Rattle.pg_match.proofs.CacheLemmas.{visits_on, visits_later, visits_small, visits_more, told_on, in_table}
+use Rattle.pg_match.proofs.CacheLemmas.{in_table}
+use Rattle.pg_match.proofs.VisitLemmas.{visits_on, visits_later, visits_small, visits_more, told_on}
 use Rattle.pg_match.proofs.automaton.Automaton.cross.Goals as goal
 
 pub returns-in-Hit-clause-crossed : goal.returns-in-Hit-clause-crossed

@@ -4,7 +4,7 @@ use Rattle.pg_pattern.specs.Bounds.{MayBegin, MayEnd}
 use Rattle.pg_match.specs.Searches.{IsBest}
 use Rattle.pg_match.specs.Views.{nfa}
 use Rattle.pg_match.proofs.AnchoredLemmas.{best_behind}
-use Rattle.pg_match.proofs.CacheLemmas.{visits_both, visits_small}
+use Rattle.pg_match.proofs.VisitLemmas.{visits_both, visits_small}
 use Rattle.pg_match.proofs.automaton.Automaton.find_from.Goals as goal
 
 pub returns-in-Some-clause-best : goal.returns-in-Some-clause-best

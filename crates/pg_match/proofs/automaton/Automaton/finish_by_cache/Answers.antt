@@ -1,7 +1,7 @@
 use Rattle.std.proofs.Common.{◌-◌, ◌+◌, ◌∙◌, arith, length, Some, subst}
 use Rattle.pg_match.specs.Anchored.{IsLongestFrom}
 use Rattle.pg_match.specs.Views.{nfa, remembered}
-use Rattle.pg_match.proofs.CacheLemmas.{told_on, visits_since}
+use Rattle.pg_match.proofs.VisitLemmas.{told_on, visits_since}
 use Rattle.pg_match.proofs.SingleStartLemmas.{follows_keeps, follows_anchored, visits_less, visits_step, visits_sum}
 use Rattle.pg_match.proofs.automaton.Automaton.finish_by_cache.Goals as goal
 

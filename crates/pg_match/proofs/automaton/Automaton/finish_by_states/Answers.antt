@@ -5,7 +5,7 @@ use Rattle.pg_match.specs.Anchored.{IsLongestFrom, IsAnchoredRun}
 use Rattle.pg_match.specs.Steps.{Has}
 use Rattle.pg_match.specs.Views.{nfa, members}
 use Rattle.pg_match.proofs.AnchoredLemmas.{begun_no_more, best_at_end, none_left}
-use Rattle.pg_match.proofs.CacheLemmas.{told_on}
+use Rattle.pg_match.proofs.VisitLemmas.{told_on}
 use Rattle.pg_match.proofs.StateSetLemmas.{few}
 use Rattle.pg_match.proofs.SingleStartLemmas.{ending_none, ending_some, stands_on, anchored_end, anchored_on}
 use Rattle.pg_match.proofs.SingleStartLemmas.{visits_small_on, visits_step}

@@ -2,7 +2,8 @@ use Rattle.std.proofs.Common.{◌≡◌, ◌+◌, ◌<◌, ◌≤◌, ◌^◌, �
 use Rattle.pg_match.proofs.StateSetLemmas.{few}
 use Rattle.pg_match.specs.Memories.{Grown, IsShape}
 use Rattle.pg_match.specs.Views.{nfa, members, remembered}
-use Rattle.pg_match.proofs.CacheLemmas.{memory_added, visited}
+use Rattle.pg_match.proofs.CacheLemmas.{memory_added}
+use Rattle.pg_match.proofs.VisitLemmas.{visited}
 use Rattle.pg_match.proofs.automaton.Automaton.first.Goals as goal
 
 at_most : (v n : ℕ) → v ≤ v + n

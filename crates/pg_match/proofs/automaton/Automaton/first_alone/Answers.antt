@@ -4,7 +4,7 @@ use Rattle.pg_match.proofs.StateSetLemmas.{few}
 use Rattle.pg_match.specs.Memories.{Grown, IsShape}
 use Rattle.pg_match.specs.Views.{nfa, members, remembered}
 use Rattle.pg_match.proofs.AnchoredLemmas.{alone_added, accepts_so}
-use Rattle.pg_match.proofs.CacheLemmas.{visited}
+use Rattle.pg_match.proofs.VisitLemmas.{visited}
 use Rattle.pg_match.proofs.automaton.Automaton.first_alone.Goals as goal
 
 counted : (n m : ℕ) → n ≡ m + 1 → m < n

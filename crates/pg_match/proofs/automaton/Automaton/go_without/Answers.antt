@@ -3,7 +3,7 @@ use Rattle.std.specs.Prelude.{IsNone}
 use Rattle.pg_match.specs.Starts.{Searched}
 use Rattle.pg_match.specs.Steps.{Has}
 use Rattle.pg_match.specs.Views.{nfa, members, remembered}
-use Rattle.pg_match.proofs.CacheLemmas.{visits_reached, visits_back}
+use Rattle.pg_match.proofs.VisitLemmas.{visits_reached, visits_back}
 use Rattle.pg_match.proofs.CursorLemmas.{runs_ended, cursor_back}
 use Rattle.pg_match.proofs.StateSetLemmas.{few}
 use Rattle.pg_match.proofs.automaton.Automaton.go_without.Goals as goal

@@ -8,8 +8,8 @@ use Rattle.pg_match.specs.Views.{nfa, members, remembered}
 use Rattle.pg_match.proofs.CursorLemmas.{stands_begun, runs_same, crosses_from}
 use Rattle.pg_match.proofs.StandsLemmas.{stands_next, run_before}
 use Rattle.pg_match.proofs.StartLemmas.{goes_whole, plain_whole}
-use Rattle.pg_match.proofs.CacheLemmas.{stands_at, visits_small, visits_later, visits_more, visits_from}
-use Rattle.pg_match.proofs.CacheLemmas.{product_fits}
+use Rattle.pg_match.proofs.CacheLemmas.{stands_at}
+use Rattle.pg_match.proofs.VisitLemmas.{visits_small, visits_later, visits_more, visits_from, product_fits}
 use Rattle.pg_match.proofs.automaton.Automaton.leave.Goals as goal
 use Rattle.pg_match.proofs.automaton.Automaton.leave.Goals.{in-Known, in-Known-2}
 

@@ -3,7 +3,8 @@ use Rattle.std.proofs.lemmas.Option.{slice_get-get_or}
 use Rattle.pg_match.specs.Memories.{In}
 use Rattle.pg_match.specs.Views.{nfa, remembered}
 use Rattle.pg_match.proofs.StandsLemmas.{stands_first}
-use Rattle.pg_match.proofs.CacheLemmas.{at_row, visits_small, visits_later, visits_on, told_on}
+use Rattle.pg_match.proofs.CacheLemmas.{at_row}
+use Rattle.pg_match.proofs.VisitLemmas.{visits_small, visits_later, visits_on, told_on}
 use Rattle.pg_match.proofs.automaton.Automaton.recall.Goals as goal
 
 pub search_first-requires-clause-begun : goal.search_first-requires-clause-begun

@@ -6,7 +6,7 @@ use Rattle.pg_match.specs.Stands.{HasRun}
 use Rattle.pg_match.specs.Starts.{Searched}
 use Rattle.pg_match.specs.Steps.{Has}
 use Rattle.pg_match.specs.Views.{nfa, members}
-use Rattle.pg_match.proofs.CacheLemmas.{visits_reached, told_on}
+use Rattle.pg_match.proofs.VisitLemmas.{visits_reached, told_on}
 use Rattle.pg_match.proofs.StateSetLemmas.{few}
 use Rattle.pg_match.proofs.StandsLemmas.{stands_first, stands_next, run_before}
 use Rattle.pg_match.proofs.StartLemmas.{stands_whole}

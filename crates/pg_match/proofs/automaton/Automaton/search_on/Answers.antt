@@ -12,7 +12,8 @@ use Rattle.pg_match.specs.Views.{nfa, members}
 use Rattle.pg_match.proofs.StandsLemmas.{stands_next, run_before}
 use Rattle.pg_match.proofs.StartLemmas.{goes_whole, with_so}
 use Rattle.pg_match.proofs.StateSetLemmas.{few}
-use Rattle.pg_match.proofs.CacheLemmas.{ended_so, stands_at, visits_small, told_on}
+use Rattle.pg_match.proofs.CacheLemmas.{ended_so, stands_at}
+use Rattle.pg_match.proofs.VisitLemmas.{visits_small, told_on}
 use Rattle.pg_match.proofs.automaton.Automaton.search_on.Goals as goal
 
 -- the set of a place, with the starts there

@@ -2,7 +2,7 @@ use Rattle.pg_match.proofs.automaton.Automaton.study.Goals.{then-from-eq0, else-
 use Rattle.std.proofs.Common.{◌≤◌, ◌∙◌, length, arith, subst, refl}
 use Rattle.pg_match.specs.Views.{members}
 use Rattle.pg_match.proofs.StateSetLemmas.{few}
-use Rattle.pg_match.proofs.CacheLemmas.{visits_after, most_small, within_most, within_room, visits_whole}
+use Rattle.pg_match.proofs.VisitLemmas.{visits_after, most_small, within_most, within_room, visits_whole}
 use Rattle.pg_match.proofs.automaton.Automaton.study.Goals as goal
 
 pub first-requires-clause-visits : goal.first-requires-clause-visits

@@ -1,7 +1,8 @@
 use Rattle.std.proofs.Common.{◌∙◌, length, arith, refl}
 use Rattle.pg_match.proofs.AnchoredLemmas.{start_row_few}
 use Rattle.pg_match.specs.Views.{remembered}
-use Rattle.pg_match.proofs.CacheLemmas.{at_row, told_on, within_most, within_room, visits_whole}
+use Rattle.pg_match.proofs.CacheLemmas.{at_row}
+use Rattle.pg_match.proofs.VisitLemmas.{told_on, within_most, within_room, visits_whole}
 use Rattle.pg_match.proofs.automaton.Automaton.study_from.Goals as goal
 
 pub loop-memory-init : goal.loop-memory-init

@@ -1,0 +1,62 @@
+-- How many visits a search comes to, and that they fit into a number.
+use Rattle.std.proofs.Common.{◌≡◌, ℕ, ◌+◌, ◌-◌, ◌*◌, ◌^◌, ◌<◌, ◌≤◌, sym, subst, arith}
+use Rattle.std.proofs.Math.Nat.{add-mul, mul-le-mul_left}
+
+pub visits_small : (p n v : ℕ) → v ≤ (p + 1) * n → p ≤ 2 ^ 30 → n < 2 ^ 64 → v < 2 ^ 98
+visits_small p n v le short few = let less : n ≤ 2 ^ 64 = omega arith in omega (arith, mul-le-mul_left (p + 1) less)
+
+-- what was visited before, and at some places since
+pub visits_since : (k n u v : ℕ) → v ≤ u + k * n → u < 2 ^ 96 → k ≤ 2 ^ 30 → n < 2 ^ 64 → v < 2 ^ 97
+visits_since k n u v le before short few = let less : n ≤ 2 ^ 64 = omega arith in omega (arith, mul-le-mul_left k less)
+
+pub visits_later : (p h n v : ℕ) → v ≤ (p + 1) * n → p ≤ h → v ≤ (h + 1) * n
+visits_later p h n v le later = let more : p + 1 ≤ h + 1 = omega arith in omega (arith, mul-le-mul_left n more)
+
+-- what a search from a place may visit, and as many visits a state as bytes stand before the place
+pub visits_both : (p l n v w : ℕ) → p ≤ l → v ≤ (l - p + 1) * n → w ≤ p * n → v + w ≤ (l + 1) * n
+visits_both p l n v w within behind before =
+    let turns : p + (l - p + 1) ≡ l + 1 = omega arith in
+    subst (λ k. v + w ≤ k * n) turns (omega (arith, add-mul p (l - p + 1) n, before, behind))
+
+pub visits_on : (p h n v w : ℕ) → v ≤ (p + 1) * n → p ≤ h → w ≤ v + n → w ≤ (h + 1 + 1) * n
+visits_on p h n v w le later add = let more : p + 1 ≤ h + 1 = omega arith in omega (arith, mul-le-mul_left n more)
+
+pub visits_after : (l n size v w k : ℕ) → size ≡ n → v ≤ l * size → w ≤ v + k → k ≤ n → w ≤ (l + 1) * n
+visits_after l n size v w k same le more few = let le' = subst (λ u. v ≤ l * u) same le in omega arith
+
+-- what a search of a line may visit, where the line and the states are few
+pub most_small : (l n size : ℕ) → size ≡ n → l ≤ 2 ^ 30 → n < 2 ^ 64 → l * size < 2 ^ 98
+most_small l n size same short few = let less : size ≤ 2 ^ 64 = omega arith in omega (arith, mul-le-mul_left l less)
+
+pub within_most : (l n size v : ℕ) → size ≡ n → l ≤ 2 ^ 30 → n < 2 ^ 64 → v ≤ l * size → v < 2 ^ 98
+within_most l n size v same short few le = let small = most_small l n size same short few in omega arith
+
+pub within_room : (l n size v : ℕ) → size ≡ n → l ≤ 2 ^ 30 → n < 2 ^ 64 → v ≤ l * size → v < 2 ^ 99
+within_room l n size v same short few le = let small = most_small l n size same short few in omega arith
+
+pub visits_whole : (l n size v w : ℕ) → size ≡ n → v ≤ l * size → w ≤ v + n → w ≤ (l + 1) * n
+visits_whole l n size v w same le more = visits_after l n size v w n same le more (omega arith)
+
+pub visited : (old new len n : ℕ) → new ≡ old + len → len ≤ n → new ≤ old + n
+visited old new len n more fits = omega arith
+
+pub visits_reached : (r h n v k size : ℕ) → v ≤ r * n + k → k ≤ size → size ≡ n → r ≤ h → v ≤ (h + 1) * n
+visits_reached r h n v k size le few same later =
+    let more : r + 1 ≤ h + 1 = omega arith in omega (arith, mul-le-mul_left n more)
+
+pub visits_back : (p r n v k : ℕ) → v ≤ r * n + k → k ≡ 0 → p < r → v ≤ (r - 1 + 1) * n
+visits_back p r n v k le none later =
+    let same : r - 1 + 1 ≡ r = omega arith in subst (λ x. v ≤ x * n) (sym same) (omega arith)
+
+pub visits_more : (a v w k : ℕ) → v ≤ a → w ≤ v + k → w ≤ a + k
+visits_more a v w k le more = omega arith
+
+pub visits_from : (p n size v k : ℕ) → size ≡ n → v ≤ p * size → v ≤ p * n + k
+visits_from p n size v k same le = let le' = subst (λ u. v ≤ p * u) same le in omega arith
+
+pub product_fits : (p n size : ℕ) → size ≡ n → p ≤ 2 ^ 30 → n < 2 ^ 64 → p * size < 2 ^ 128
+product_fits p n size same short few =
+    let less : size ≤ 2 ^ 64 = omega arith in omega (arith, mul-le-mul_left p less)
+
+pub told_on : (u v w a b d : ℕ) → v + a ≡ u + b → w + b ≡ v + d → w + a ≡ u + d
+told_on u v w a b d first next = omega arith
