@@ -90,7 +90,7 @@ SPREAD = """\
 -i -c -E [XYZ]{3} large other
 -w -E [a-d][aeiou][r-z] large
 -w -c -E [a-z]{8} large last
--w -n -E [xyz][a-z]* other
+-w -n -E [a-z][xyz]* other
 -x -E [a-z]{1,8}.[a-z]{1,8}.[a-z]{1,8} large
 -x -v -c -E .{20,} large last
 -z -n -E ^[a-d][aeiou] nuls

@@ -150,7 +150,7 @@ any x(foo|bar);a[0-9];zoo => bar;foo;only:a0;only:a1;only:a2;only:a3;only:a4;onl
 ];
 
 /// `plain` or `fold`, an expression and a text in parts, and where the row stands in it that is looked for in place of
-/// the expression's literals.
+/// the expression's literals; `later` where it is only once these stand in too many lines in vain.
 const ROWS: [&str; 2] = [
     r"plain [A-Z]{3,} xAB:1 xABC:1 => 4
 plain [A-Z]{3,} xAB:1 xAB:1 xC:1 => nowhere
@@ -177,11 +177,13 @@ plain [A-Z]{3}[0-9]{2} 12x:60 ABC12:1 => gave up",
 plain [A-Z]+ x:40 => nowhere
 plain [a-z] x:1 => none
 plain [^0-9] x:1 => none
-plain [a-z]+ing x:1 => none
+plain [a-z]+ing x:1 => later nowhere
 plain (foo|bar)[0-9] x:1 => none
 plain [aeiou]{4} x:1 => none
-plain [^,]+, x:1 => none
+plain [^,]+, x:40 ,:1 => later 39
 plain abc x:1 => none
+plain (ab|cd|ef|gh|ij)k x:40 abk:1 => later 42
+plain level=[0-9]{5} level=1:2 level=12345:1 => later 14
 plain a|[A-Z]{3} x:1 => none
 plain ([A-Z]{3})? x:1 => none",
 ];
@@ -230,16 +232,20 @@ fn show_all(literals: &[Literal], out: &mut String) {
     }
 }
 
-/// Where the row of an expression stands in a text, if one is looked for.
+/// Where the row of an expression stands in a text, if one is looked for; shows whether that is later.
 fn place_of(
     alloc: Global,
     trees: &[Tree],
     fold: bool,
     text: &[u8],
+    out: &mut String,
 ) -> Result<Option<RowOutcome>, AllocError> {
     let literals = Literal::of(alloc, trees, Bounds::Any, fold)?;
     match RowFinder::of(alloc, trees, Bounds::Any, fold, b'\n', &literals)? {
-        Some(finder) => Ok(Some(finder.find(text, 0))),
+        Some(finder) => {
+            let _ = out.push_str(if finder.is_first { "" } else { "later " });
+            Ok(Some(finder.find(text, 0)))
+        }
         None => Ok(None),
     }
 }
@@ -250,7 +256,7 @@ pub(crate) fn show_row(alloc: Global, kind: &str, asked: &str, out: &mut String)
     let fold = kind == "fold";
     let trees = trees_of(alloc, pattern, fold, out);
     let text = repeated(alloc, parts);
-    let _ = match place_of(alloc, &trees, fold, &text) {
+    let _ = match place_of(alloc, &trees, fold, &text, out) {
         Ok(Some(RowOutcome::Found(place))) => write!(out, "{place}"),
         Ok(Some(RowOutcome::NotFound)) => write!(out, "nowhere"),
         Ok(Some(RowOutcome::GaveUp)) => write!(out, "gave up"),

@@ -22,7 +22,7 @@ pub(crate) enum Needles<'n, A: Allocator> {
     Few(NeedleList<'n, A>),
     Many(NeedleSet<'n, A>),
     Row(NeedleRow<'n, A>),
-    /// They stand in too many lines in vain.
+    /// They stood in too many lines in vain.
     GivenUp,
     /// To compare them with the text takes too long, in single lines as in the block, or the row stands in too many
     /// lines.
@@ -86,6 +86,28 @@ impl<'n, A: Allocator> Needles<'n, A> {
         match self {
             Needles::TooSlow => true,
             Needles::Few(_) | Needles::Many(_) | Needles::Row(_) | Needles::GivenUp => false,
+        }
+    }
+
+    /// Gives them up, since they stood in too many lines in vain: a row of the query takes the place of literals, if it
+    /// has one. Tells whether it does.
+    pub fn give_up(&mut self, query: &'n Query<A>) -> bool
+        ensures needles { (bytes : List ℕ) (at : ℕ) → AreNeedles query.now.text bytes at self.new }
+        ensures some { AreSome self.new }
+    {
+        let row = match self {
+            Needles::Few(_) | Needles::Many(_) => query.row(),
+            Needles::Row(_) | Needles::GivenUp | Needles::TooSlow => None,
+        };
+        match row {
+            Some(row) => {
+                *self = Needles::Row(NeedleRow::new(row));
+                true
+            }
+            None => {
+                *self = Needles::GivenUp;
+                false
+            }
         }
     }
 

@@ -58,7 +58,7 @@ pub struct Query<A: Allocator = Global> {
     suffix: Option<LineSuffix<A>>,
     /// What stands before a place of a line doesn't matter to the matches behind it.
     ignores_front: bool,
-    /// A row that stands in each line with a hit, if one is known that costs less to look for than the literals.
+    /// A row that stands in each line with a hit, if one is known that is rare.
     row: Option<RowFinder<A>>,
 }
 
@@ -192,16 +192,24 @@ impl<A: Allocator> Query<A> {
         self.suffix.as_ref()
     }
 
-    /// A row that stands in each line with a hit, if one is known that costs less to look for than the literals.
+    /// A row that stands in each line with a hit, if one is known that is rare.
     pub(crate) fn row(&self) -> Option<&RowFinder<A>>
         ensures { IfSome result (λ row. IsRowOf self.now.text row.now) }
     {
         self.row.as_ref()
     }
 
+    /// The same, if it costs less to look for than the literals.
+    pub(crate) fn first_row(&self) -> Option<&RowFinder<A>>
+        ensures { IfSome result (λ row. IsRowOf self.now.text row.now) }
+    {
+        let row = self.row()?;
+        if row.is_first { Some(row) } else { None }
+    }
+
     /// Whether lines are looked for by such a row, and not by many literals. It decides about speed alone.
     pub fn has_row(&self) -> bool {
-        self.row.is_some() && self.literal_set.is_none()
+        self.first_row().is_some() && self.literal_set.is_none()
     }
 }
 
@@ -296,7 +304,7 @@ fn suffix_of<A: Allocator + Copy>(
 }
 
 /// The finder of a row that stands in each line with a hit of a text's patterns, whose trees and literals these are,
-/// where one is known that costs less to look for.
+/// where one is known that is rare.
 fn row_of<A: Allocator + Copy>(
     alloc: A,
     text: &QueryText<A>,

@@ -192,13 +192,34 @@ fn next_by_automaton<A: Allocator>(
     next_matched(query, &strings, scratch, bytes, at)
 }
 
+/// How many lines held a needle and had no hit, with one more. Where these are too many, the needles are given up, and
+/// for what takes their place none has been counted.
+fn with_one_in_vain<'n, A: Allocator>(
+    query: &'n Query<A>,
+    needles: &mut Needles<'n, A>,
+    in_vain: usize,
+) -> usize
+    requires { in_vain < 8 }
+    ensures few { result ≤ 8 }
+    ensures needles { (bytes : List ℕ) (at : ℕ) → AreNeedles query.now.text bytes at needles.old
+        → AreNeedles query.now.text bytes at needles.new }
+    ensures some { AreSome needles.old → AreSome needles.new }
+{
+    let more = in_vain + 1;
+    if more < PATIENCE {
+        return more;
+    }
+    if needles.give_up(query) { 0 } else { more }
+}
+
 /// The first line with a hit at or behind a place where a line starts, with its terminator, where such lines hold a
-/// needle: only those that do are looked at. If too many of them have none, needles are looked for no more.
+/// needle: only those that do are looked at. If too many of them have none, the needles are given up, and at last the
+/// rest of the block is searched line by line.
 #[inline(never)]
-fn next_confirmed<A: Allocator>(
-    query: &Query<A>,
+fn next_confirmed<'n, A: Allocator>(
+    query: &'n Query<A>,
     strings: &BlockStrings<'_, A>,
-    needles: &mut Needles<'_, A>,
+    needles: &mut Needles<'n, A>,
     scratch: &mut Scratch<A>,
     bytes: &[u8],
     at: usize,
@@ -227,20 +248,20 @@ fn next_confirmed<A: Allocator>(
         if found.is_enough || has_hit(query, strings, scratch, text, line.start) {
             return Some(line);
         }
-        in_vain = in_vain.saturating_sub((line.start - from) / FAR) + 1;
+        let passed = (line.start - from) / FAR;
+        in_vain = with_one_in_vain(query, needles, in_vain.saturating_sub(passed));
         from = line.end;
     }
-    *needles = Needles::GivenUp;
     next_matched(query, strings, scratch, bytes, from)
 }
 
 /// The first line with a hit at or behind a place where a line starts, with its terminator: by the needles where there
 /// are any, else line by line.
 #[inline(always)]
-fn next_hit<A: Allocator>(
-    query: &Query<A>,
+fn next_hit<'n, A: Allocator>(
+    query: &'n Query<A>,
     strings: &BlockStrings<'_, A>,
-    needles: &mut Needles<'_, A>,
+    needles: &mut Needles<'n, A>,
     scratch: &mut Scratch<A>,
     bytes: &[u8],
     at: usize,
@@ -262,11 +283,11 @@ fn next_hit<A: Allocator>(
 }
 
 /// The runs of lines with a hit, their parts, and the number of all lines.
-fn runs_of_hits<A: Allocator + Copy>(
+fn runs_of_hits<'n, A: Allocator + Copy>(
     alloc: A,
-    query: &Query<A>,
+    query: &'n Query<A>,
     strings: &BlockStrings<'_, A>,
-    needles: &mut Needles<'_, A>,
+    needles: &mut Needles<'n, A>,
     scratch: &mut Scratch<A>,
     bytes: &[u8],
 ) -> Result<Found<A>, AllocError>
@@ -295,11 +316,11 @@ fn runs_of_hits<A: Allocator + Copy>(
 }
 
 /// The runs of lines between those with a hit, and the number of all lines.
-fn runs_between_hits<A: Allocator + Copy>(
+fn runs_between_hits<'n, A: Allocator + Copy>(
     alloc: A,
-    query: &Query<A>,
+    query: &'n Query<A>,
     strings: &BlockStrings<'_, A>,
-    needles: &mut Needles<'_, A>,
+    needles: &mut Needles<'n, A>,
     scratch: &mut Scratch<A>,
     bytes: &[u8],
 ) -> Result<Found<A>, AllocError>
@@ -329,11 +350,11 @@ fn runs_between_hits<A: Allocator + Copy>(
 }
 
 /// The runs of selected lines, their parts, and the number of all lines.
-fn selected_runs<A: Allocator + Copy>(
+fn selected_runs<'n, A: Allocator + Copy>(
     alloc: A,
-    query: &Query<A>,
+    query: &'n Query<A>,
     strings: &BlockStrings<'_, A>,
-    needles: &mut Needles<'_, A>,
+    needles: &mut Needles<'n, A>,
     scratch: &mut Scratch<A>,
     bytes: &[u8],
 ) -> Result<Found<A>, AllocError>
@@ -403,7 +424,7 @@ fn search_by<A: Allocator + Copy>(
         alloc,
         literals,
         sought_set(query, set),
-        query.row(),
+        query.first_row(),
         searched,
     )?;
     selected_runs(alloc, query, &strings, &mut needles, scratch, bytes)

@@ -1,6 +1,6 @@
 -- Where rows of sets stand, set by set.
 use Rattle.std.proofs.Common.{◌≡◌, ℕ, zero, suc, ◌+◌, ◌-◌, inl, inr, ◌<◌, ◌≤◌, ◌||◌, ◌&&◌, ◌==◌, Bool, true, false}
-use Rattle.std.proofs.Common.{true≢false, not, List, [], ◌∷◌}
+use Rattle.std.proofs.Common.{true≢false, not, List, [], ◌∷◌, Option, Some, None, IfSome, IsTrue}
 use Rattle.std.proofs.Common.{◌++◌, length, take, drop, get_or, map, reverse, refl, sym, ap, ap₂, ◌∙◌, subst, arith}
 use Rattle.std.specs.List.{Contains}
 use Rattle.std.proofs.lemmas.List.{length-map, get_or-map, get_or-drop, map-append, reverse-append, take_more}
@@ -17,6 +17,7 @@ use Rattle.pg_pattern.specs.Hits.{HasHit}
 use Rattle.pg_pattern.specs.declared.bounds.Bounds.TheVariants.{Any}
 use Rattle.pg_literal.specs.CoveredSets.{IsOnlyByte}
 use Rattle.pg_literal.specs.declared.covered.OnlyByte.{OnlyByte}
+use Rattle.pg_literal.specs.declared.row_finder.RowFinder.{RowFinder}
 use Rattle.pg_literal.specs.Needed.{without, IsEnoughRow, IsNeeded, NeedsRow, IsSureRow}
 use Rattle.pg_literal.specs.Rows.{row_along, StandsAt}
 use Rattle.pg_literal.proofs.LiteralLemmas.{alone_matched}
@@ -176,3 +177,17 @@ only_elsewhere line row only at k rest is behind none o =
     ap (λ xs. get_or xs k 0) behind ∙ (get_or-drop (at + only.offset) line k 0
     ∙ (ap (λ n. get_or line n 0) (sym place) ∙ byte)) in
     none (eq-eqb _ _ read)
+
+module _ {A : Type 0} (P : List ByteSet → Type 0) (sets : List ByteSet) where
+  -- what stands of some sets stands of a finder's that are the same
+  pub of_finder : (found : Option (RowFinder A)) → IfSome found (λ finder. finder.sets.items ≡ sets) → P sets
+      → IfSome found (λ finder. P finder.sets.items)
+  of_finder None same is = tt
+  of_finder (Some finder) same is = subst P (sym same) is
+
+  -- the same of what a flag says
+  pub flag_of_finder : (found : Option (RowFinder A)) (flag : Bool)
+      → IfSome found (λ finder. finder.sets.items ≡ sets) → IfSome found (λ finder. finder.is_enough ≡ flag)
+      → (IsTrue flag → P sets) → IfSome found (λ finder. IsTrue finder.is_enough → P finder.sets.items)
+  flag_of_finder None flag same set says = tt
+  flag_of_finder (Some finder) flag same set says = λ yes. subst P (sym same) (says (sym set ∙ yes))

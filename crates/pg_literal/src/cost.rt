@@ -125,9 +125,13 @@ pub(crate) fn chance_of(sets: &[ByteSet]) -> usize {
     chance
 }
 
-/// Whether no row costs less to look for than some literals.
-pub(crate) fn are_cheap<A: Allocator>(literals: &[Literal<A>]) -> bool {
-    !literals.is_empty() && cost_of(literals) <= 2 * ONE
+/// Whether fewer lines are to be expected with a row than with some literals, as far as their lengths tell: it is
+/// longer than the only one, or there are several or none.
+pub(crate) fn tells_more<A: Allocator>(row: &[ByteSet], literals: &[Literal<A>]) -> bool {
+    match literals {
+        [literal] => row.len() > literal.text.len(),
+        _ => true,
+    }
 }
 
 /// What is paid for each byte that is passed in the search for the only byte of a set, and for trying a row there.
@@ -152,9 +156,14 @@ pub(crate) fn sets_cost(near: CoveredSet, far: CoveredSet, is_enough: bool) -> u
     }
 }
 
-/// Whether a row is worth to be looked for at what is paid for passing bytes: it costs less than some literals, or than
-/// to ask the automaton about each line, if there are none. What lines cost that hold it in vain soon shows in a block.
-pub(crate) fn has_use<A: Allocator>(
+/// Whether a row is worth to be looked for at what is paid for passing bytes: it costs less than to ask the automaton
+/// about each line. What lines cost that hold it in vain soon shows in a block.
+pub(crate) fn has_use(passing: usize) -> bool {
+    passing < NO_TEXT
+}
+
+/// Whether such a row costs less than some literals, if there are any, and these aren't cheap.
+pub(crate) fn is_cheaper<A: Allocator>(
     passing: usize,
     row: &[ByteSet],
     is_enough: bool,
@@ -162,9 +171,6 @@ pub(crate) fn has_use<A: Allocator>(
 ) -> bool {
     let line = if is_enough { SELECTED } else { IN_VAIN };
     let lines = line.saturating_mul(chance_of(row) >> 16) >> 16;
-    if literals.is_empty() {
-        passing < NO_TEXT
-    } else {
-        passing.saturating_add(lines) < cost_of(literals)
-    }
+    let texts = cost_of(literals);
+    literals.is_empty() || texts > 2 * ONE && passing.saturating_add(lines) < texts
 }

@@ -11,7 +11,7 @@ ghost use Rattle.pg_literal.specs.CoveredSets.{IsCoveredSet, IsOnlyByte};
 ghost use Rattle.pg_literal.specs.Needed.{without, IsEnoughRow, IsNeeded, NeedsRow, IsSureRow};
 ghost use Rattle.pg_literal.specs.RowOutcomes.{FindsRow};
 
-use crate::cost::{are_cheap, byte_cost, chance_of, has_use, sets_cost};
+use crate::cost::{byte_cost, chance_of, has_use, is_cheaper, sets_cost, tells_more};
 use crate::covered::{CoveredSet, OnlyByte, covered_at, only_byte_at, rarest_two};
 use crate::known::{MatchFacts, with_tree};
 use crate::literal::{Literal, wider};
@@ -35,6 +35,9 @@ pub struct RowFinder<A: Allocator = Global> {
     only: Option<OnlyByte>,
     /// Each line in which the row stands has a hit.
     pub is_enough: bool,
+    /// It costs less to look for than the trees' literals. Else it is one to look for where these stand in too many
+    /// lines without a hit.
+    pub is_first: bool,
     ghost near_is: { IsCoveredSet (row_along sets.items) near },
     ghost far_is: { IsCoveredSet (row_along sets.items) far },
     ghost ordered: { near.offset ≤ far.offset },
@@ -137,9 +140,9 @@ fn rarer_row<A: Allocator + Copy>(
 
 impl<A: Allocator> RowFinder<A> {
     /// The finder of a row of which each match of some trees has bytes, in lines that end with the byte `end`. There is
-    /// one for a single tree, where such a row is known that is rare, and costs less to look for than the tree's
-    /// literals, if it has some. With `fold` the case of letters was folded for the trees. A refused request for memory
-    /// is the only error.
+    /// one for a single tree, where such a row is known that is rare, and is longer than the tree's literal, if it has
+    /// but one. With `fold` the case of letters was folded for the trees. A refused request for memory is the only
+    /// error.
     pub fn of(
         alloc: A,
         trees: &[Tree<A>],
@@ -155,15 +158,24 @@ impl<A: Allocator> RowFinder<A> {
         ensures enough { IfOk result (λ found. IfSome found (λ finder. IsTrue finder.is_enough
             → IsEnoughRow (map pattern trees.now) bounds (row_along finder.sets.items))) }
     {
-        if trees.len() != 1 || are_cheap(literals) {
+        if trees.len() != 1 {
             return Ok(None);
         }
         let row = rarer_row(alloc, &trees[0], fold)?;
-        if row.sets.is_empty() {
+        if row.sets.is_empty() || !tells_more(&row.sets, literals) {
             return Ok(None);
         }
         let sets = within_lines(alloc, &row.sets, end)?;
         let is_enough = is_enough(row.is_sure, bounds);
+        Ok(RowFinder::over(sets, is_enough, literals))
+    }
+
+    /// The finder of a row of one set or more, the first one first, if it is worth to be looked for.
+    fn over(sets: Vec<ByteSet, A>, is_enough: bool, literals: &[Literal<A>]) -> Option<RowFinder<A>>
+        requires { 0 < length sets.items }
+        ensures sets { IfSome result (λ finder. finder.sets.items ≡ sets.items) }
+        ensures enough { IfSome result (λ finder. finder.is_enough ≡ is_enough) }
+    {
         let (rarest, next) = rarest_two(&sets);
         let near = covered_at(&sets, rarest.min(next));
         let far = covered_at(&sets, rarest.max(next));
@@ -174,17 +186,18 @@ impl<A: Allocator> RowFinder<A> {
         } else {
             by_sets
         };
-        if has_use(passing, &sets, is_enough, literals) {
-            Ok(Some(RowFinder {
-                sets,
-                near,
-                far,
-                only,
-                is_enough,
-            }))
-        } else {
-            Ok(None)
+        if !has_use(passing) {
+            return None;
         }
+        let is_first = is_cheaper(passing, &sets, is_enough, literals);
+        Some(RowFinder {
+            sets,
+            near,
+            far,
+            only,
+            is_enough,
+            is_first,
+        })
     }
 
     /// Whether the row stands at a place of some bytes, or at their end.

@@ -81,10 +81,11 @@ loop-in_vain-preserved g c =
       fits = c.has_hit.ensures.fits;
       low = omega (arith, i.low, next.0, next.1);
       within = next.2;
-      few = omega (arith, c.loop-in_vain-test.true, c.saturating_sub-in_vain.ensures);
-      needles = needles_later text bytes from found.line.end c.next_line.new.self (omega (arith, next.0, next.1))
-          c.in-Found.ensures.needles;
-      some = c.in-Found.ensures.some;
+      few = c.with_one_in_vain-in_vain.ensures.few;
+      needles = c.with_one_in_vain-in_vain.ensures.needles bytes found.line.end
+          (needles_later text bytes from found.line.end c.next_line.new.self (omega (arith, next.0, next.1))
+          c.in-Found.ensures.needles);
+      some = c.with_one_in_vain-in_vain.ensures.some c.in-Found.ensures.some;
       short = (first_short text from bytes found first i.short).1;
       skipped = λ trees spelled.
           let q = search_of (uninverted text) trees in

@@ -24,7 +24,7 @@ selected_runs-requires-clause-ready g c =
         suffix = subst (λ o. IfSome o (λ suffix. IsSuffixOf text suffix.now)) (sym new.ensures.suffix) c.suffix.ensures;
       };
       needles = c.in_ok-needles.ensures text bytes c.requires.literals (sought_known _ _ _ sought known)
-          c.row.ensures c.requires.searched (sought_known _ _ _ sought c.requires.set_searched);
+          c.first_row.ensures c.requires.searched (sought_known _ _ _ sought c.requires.set_searched);
       fits = c.requires.fits;
       short = c.requires.short;
     }
