@@ -120,6 +120,8 @@ SETS = r"""
 -cE [A-Z][a-z]+[A-Z]
 -cE [qjxz][^u]
 -cE (ab|cd|ef|gh|ij)k
+-cE id=[0-9a-f]{3}x
+-cE (GET|POST).*#[0-9]
 """
 
 LISTS = ("-c", "-ci", "-cw", "-cx", "-o", "-cvx")
