@@ -72,11 +72,9 @@ const ODD: usize = 1 << 19;
 /// What is certain, as a chance.
 const CERTAIN: usize = 1 << 32;
 
-/// No row is looked for by two sets whose bytes are to be expected more often.
-const OFTEN: usize = CERTAIN / 32;
-
-/// No more often where the row is enough, so that lines that have it aren't read.
-const COMMON: usize = CERTAIN / 8;
+/// No row is looked for by two sets whose bytes are to be expected more often. Where they stand as often, the search of
+/// a block is soon given up; where they don't, it takes a tenth of the time.
+const OFTEN: usize = CERTAIN / 8;
 
 /// What it costs to pass a byte in the search for two sets of a row, in picoseconds.
 const SETS: usize = 250;
@@ -140,7 +138,7 @@ pub(crate) fn byte_cost(set: &ByteSet) -> usize {
 }
 
 /// The same in the search for bytes of two sets.
-pub(crate) fn sets_cost(near: CoveredSet, far: CoveredSet, is_enough: bool) -> usize {
+pub(crate) fn sets_cost(near: CoveredSet, far: CoveredSet) -> usize {
     let first = chance_covered(near.cover);
     let second = if near.offset == far.offset {
         CERTAIN
@@ -148,8 +146,7 @@ pub(crate) fn sets_cost(near: CoveredSet, far: CoveredSet, is_enough: bool) -> u
         chance_covered(far.cover)
     };
     let both = (first >> 16).saturating_mul(second >> 16);
-    let bound = if is_enough { COMMON } else { OFTEN };
-    if both > bound {
+    if both > OFTEN {
         NO_TEXT
     } else {
         SETS.saturating_add(COMPARING.saturating_mul(both >> 16) >> 16)

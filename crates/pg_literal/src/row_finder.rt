@@ -179,7 +179,7 @@ impl<A: Allocator> RowFinder<A> {
         let (rarest, next) = rarest_two(&sets);
         let near = covered_at(&sets, rarest.min(next));
         let far = covered_at(&sets, rarest.max(next));
-        let by_sets = sets_cost(near, far, is_enough);
+        let by_sets = sets_cost(near, far);
         let only = cheaper_byte(&sets, rarest, by_sets);
         let passing = if only.is_some() {
             byte_cost(&sets[rarest])
