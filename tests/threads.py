@@ -73,7 +73,7 @@ SPREAD = """\
 -v -c -E [a-m][n-z] large other last
 -o -E [aeiou]{3,} large
 -o -n -E [aeiou]{4} large last
--o -E [a-d]*[xyz]+ other last
+-o -E [a-d]*[m-z]+ other last
 -o -i -n -E [A-D][XYZ]+ last other
 -o -w -E [aeiou]+ large
 -n -C 1 -E [xyz]{4} large
@@ -88,15 +88,15 @@ SPREAD = """\
 -v -A 2 -E [a-m] other last
 -i -E [A-D][AEIOU][R-Z]{2} large
 -i -c -E [XYZ]{3} large other
--w -E [a-d][aeiou][r-z] large
+-w -E [a-m][aeiou][n-z] large
 -w -c -E [a-z]{8} large last
 -w -n -E [a-z][xyz]* other
 -x -E [a-z]{1,8}.[a-z]{1,8}.[a-z]{1,8} large
 -x -v -c -E .{20,} large last
--z -n -E ^[a-d][aeiou] nuls
+-z -n -E ^[a-m][aeiou] nuls
 -c -E ^ large other short last
 -n -E ^$ large
---color=always -n -E [a-d][aeiou][r-z]{2} large other
+--color=always -n -E [a-m][aeiou][n-z]{2} large other
 --color=always -o -H -E [aeiou]{4} large
 --color=always -n -C 1 -E [xyz]{4} large other last
 -b -n -C 2 --group-separator=+++ -E [xyz]{4} large other last
