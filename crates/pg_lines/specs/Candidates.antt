@@ -104,13 +104,13 @@ AreNeedles text bytes at (Row row) = IsRowOf text row.finder.now
 AreNeedles text bytes at GivenUp = Unit {0}
 AreNeedles text bytes at TooSlow = Unit {0}
 
--- they aren't a list of none
+-- something is looked for: they aren't given up, and no list of none
 abbrev pub AreSome : {A : Type 0} → Needles A → Type 0
 AreSome (Few list) = 0 < length list.needles.items
-AreSome (Many set) = Unit {0}
+AreSome (Many set) = 0 < length (set_literals set.literals.now)
 AreSome (Row row) = Unit {0}
-AreSome GivenUp = Unit {0}
-AreSome TooSlow = Unit {0}
+AreSome GivenUp = ⊥
+AreSome TooSlow = ⊥
 
 -- the first line that holds a literal, in bytes from a place on, if there is one and the search wasn't given up
 abbrev pub IsNextWith : Bool → ℕ → List LiteralData → ℕ → List ℕ → NextLine → Type 0

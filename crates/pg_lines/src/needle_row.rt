@@ -39,7 +39,7 @@ impl<'n, A: Allocator> NeedleRow<'n, A> {
         NeedleRow { finder, close: 0 }
     }
 
-    /// The first line at or behind a place in which the row stands.
+    /// The first line at or behind a place of a block, or its end, in which the row stands, which is one of the query.
     pub fn next_line(&mut self, query: &Query<A>, bytes: &[u8], at: usize) -> NextLine
         requires at { at ≤ length bytes.now }
         requires row { IsRowOf query.now.text self.old.finder.now }

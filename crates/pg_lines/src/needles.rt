@@ -1,5 +1,5 @@
 //! What lines with a hit hold, as it is looked for in a block.
-ghost use Rattle.std.specs.Prelude.{◌≡◌, ◌<◌, ◌≤◌, ℕ, List, length, map, false, IfOk, IfSome};
+ghost use Rattle.std.specs.Prelude.{◌≡◌, ◌<◌, ◌≤◌, ℕ, List, [], length, map, false, None, IfOk, IfSome, IsSome, IsTrue};
 ghost use Rattle.pg_literal.specs.Literals.{as_searched};
 ghost use Rattle.pg_selection.specs.Search.{SearchText};
 ghost use Rattle.pg_lines.specs.Literals.{AreLiterals, IsRowOf, data_of, set_literals};
@@ -93,7 +93,9 @@ impl<'n, A: Allocator> Needles<'n, A> {
     /// has one. Tells whether it does.
     pub fn give_up(&mut self, query: &'n Query<A>) -> bool
         ensures needles { (bytes : List ℕ) (at : ℕ) → AreNeedles query.now.text bytes at self.new }
-        ensures some { AreSome self.new }
+        ensures literals { literals_sought self.new ≡ [] }
+        ensures row { IsTrue result → IsSome (row_sought self.new) }
+        ensures none { result ≡ false → row_sought self.new ≡ None }
     {
         let row = match self {
             Needles::Few(_) | Needles::Many(_) => query.row(),
@@ -111,7 +113,8 @@ impl<'n, A: Allocator> Needles<'n, A> {
         }
     }
 
-    /// The first line at or behind a place that holds one of the literals, or the row, that they are of.
+    /// The first line at or behind a place of a block, or its end, that holds one of the literals, or the row, that
+    /// they are of. They are needles of the query in the block, some of them, and not given up.
     pub fn next_line(&mut self, query: &Query<A>, bytes: &[u8], at: usize) -> NextLine
         requires at { at ≤ length bytes.now }
         requires needles { AreNeedles query.now.text bytes.now at self.old }

@@ -192,8 +192,8 @@ fn next_by_automaton<A: Allocator>(
     next_matched(query, &strings, scratch, bytes, at)
 }
 
-/// How many lines held a needle and had no hit, with one more. Where these are too many, the needles are given up, and
-/// for what takes their place none has been counted.
+/// How many lines held a needle and had no hit, with one more; without it there were fewer than 8. Where these are too
+/// many, the needles are given up, and for what takes their place none has been counted.
 fn with_one_in_vain<'n, A: Allocator>(
     query: &'n Query<A>,
     needles: &mut Needles<'n, A>,
@@ -203,7 +203,7 @@ fn with_one_in_vain<'n, A: Allocator>(
     ensures few { result ≤ 8 }
     ensures needles { (bytes : List ℕ) (at : ℕ) → AreNeedles query.now.text bytes at needles.old
         → AreNeedles query.now.text bytes at needles.new }
-    ensures some { AreSome needles.old → AreSome needles.new }
+    ensures some { result < 8 → AreSome needles.old → AreSome needles.new }
 {
     let more = in_vain + 1;
     if more < PATIENCE {

@@ -126,7 +126,7 @@ impl Cover {
 }
 
 /// How many of the 32 places from one on come before the first with a covered byte and another one, covered too, behind
-/// it at a distance; 32 where there is none. As many bytes have to be there.
+/// it at a distance; 32 where there is none. From both places on 32 bytes have to be there.
 #[inline(always)]
 pub(crate) fn uncovered_places(
     near: Cover,

@@ -85,7 +85,7 @@ loop-in_vain-preserved g c =
       needles = c.with_one_in_vain-in_vain.ensures.needles bytes found.line.end
           (needles_later text bytes from found.line.end c.next_line.new.self (omega (arith, next.0, next.1))
           c.in-Found.ensures.needles);
-      some = c.with_one_in_vain-in_vain.ensures.some c.in-Found.ensures.some;
+      some = λ few. c.with_one_in_vain-in_vain.ensures.some few c.in-Found.ensures.some;
       short = (first_short text from bytes found first i.short).1;
       skipped = λ trees spelled.
           let q = search_of (uninverted text) trees in

@@ -1,4 +1,4 @@
-use Rattle.std.proofs.Common.{List, ◌-◌, ◌≤◌, length, drop}
+use Rattle.std.proofs.Common.{List, ◌-◌, ◌<◌, ◌≤◌, length, drop}
 use Rattle.pg_match.specs.Machines.{Fits}
 use Rattle.pg_blocks.specs.Lines.{AreShort}
 use Rattle.pg_selection.specs.Search.{Pattern, AreTreesOf, search_of, uninverted, terminator_of}
@@ -14,7 +14,7 @@ invariant-loop-in_vain g l = record {
   within : l.from ≤ length l.bytes;
   few : l.in_vain ≤ 8;
   needles : AreNeedles l.query.text l.bytes l.from l.needles;
-  some : AreSome l.needles;
+  some : l.in_vain < 8 → AreSome l.needles;
   short : AreShort (terminator_of l.query.text) (drop l.from l.bytes);
   skipped : (trees : List Pattern) → AreTreesOf l.query.text trees
       → IsSkipped (search_of (uninverted l.query.text) trees) l.at l.from l.bytes;
