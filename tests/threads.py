@@ -1,12 +1,13 @@
 #!/usr/bin/env python3
 """Compares what the program writes by several threads: `tests/threads.py [--program PATH]`
 
-Threads are started only for a round of 1 MiB, only where nothing that was read can be enough, and at first only for a
-query whose lines the automaton is asked about; later by how long the search has taken. So files of some MiB are made,
-the same ones each time, in a folder that is removed at the end. Each command line below is run over them by 2 and by 4
-workers, and by one thread (`--round 1`), and has to give the same bytes and the same status each time, as the
-machine's own grep gives them. While 4 workers are asked for, the threads of the process are counted: several have to be
-seen for the lines of SPREAD, and for those of ALONE the first one and no other. A run of one thread must show no second
+Threads are started only for a round of 1 MiB, only where nothing that was read can be enough, and only where the search
+has taken long so far, more than a nanosecond a byte. So files of some MiB are made, the same ones each time, in a
+folder that is removed at the end. Each command line below is run over them by 2 and by 4 workers, and by one thread
+(`--round 1`), and has to give the same bytes and the same status each time, as the machine's own grep gives them. The
+lines of SPREAD are run with `--always-spread`, which leaves out the question of time, and those of SLOW take so long
+that threads start without it. While 4 workers are asked for, the threads of the process are counted: several have to be
+seen for the lines of both, and for those of ALONE the first one and no other. A run of one thread must show no second
 one either. The last line is `N passed, M failed`.
 """
 
@@ -43,12 +44,16 @@ RUNS_A_LOOK = 100
 # A run that has not ended after so many seconds has failed.
 LIMIT = 60
 
-# Literals, which one thread finds fast or not so fast: threads may start.
+# One thread finds these lines fast or not so fast: threads may start.
 EITHER = """\
 -F ab large other
 -n qu large
 -o -i -e QU -e ab large last
 -v -c -F -e ab -e q large other
+-c -E '\\([^)]*\\)' large other
+-n -E ^#|^$ large last
+-c -E z[a-z]*z large
+-n -E [xyz]{3} large other
 """
 
 # What was read may be enough: no thread starts.
@@ -60,7 +65,17 @@ ALONE = """\
 -q -E [aeiou]{9} large other
 """
 
-# The automaton is asked about at most lines, and all of the files has to be read: threads start.
+# Many parts or rows, which take several nanoseconds a byte, and all of the files has to be read: threads start.
+SLOW = """\
+-o -E [a-d]*[m-z]+ other last
+-o -E [a-z] large
+-o -n -E [a-z]+ large other
+-o -i -n -E [A-D][XYZ]+|[aeiou]{2} last other
+-o -b -e [a-c] -e [x-z][a-c] last large
+--color=always -n -E [a-m][aeiou] large other
+"""
+
+# All of the files has to be read: threads start where time isn't asked for.
 SPREAD = """\
 -E [a-d][aeiou][r-z] large
 -E [a-d][aeiou][r-z] large other short last
@@ -180,8 +195,9 @@ def without_own(words):
     return words
 
 
-def faults_of(program, words, folder, is_spread):
-    """What is not as it has to be of a line; `is_spread` is None where threads may start or not."""
+def faults_of(program, words, folder, is_spread, own):
+    """What is not as it has to be of a line, by several threads with options of the program's own; `is_spread` is None
+    where threads may start or not."""
     faults = []
     alone, beside = answer([program, *words, "--round", "1"], folder, is_watched=True)
     if beside > 1:
@@ -190,11 +206,11 @@ def faults_of(program, words, folder, is_spread):
     # Of standard error it is only compared whether anything was told.
     if (alone[0], alone[1], bool(alone[2])) != (grep[0], grep[1], bool(grep[2])):
         faults.append("grep gives something else than one thread")
-    two, _ = answer([program, "--workers", "2", *words], folder)
+    two, _ = answer([program, "--workers", "2", *own, *words], folder)
     if two != alone:
         faults.append("2 workers give something else than one thread")
     looks = TRIES if is_spread else LOOKS
-    most, is_same = threads_seen([program, "--workers", "4", *words], folder, alone, looks)
+    most, is_same = threads_seen([program, "--workers", "4", *own, *words], folder, alone, looks)
     if not is_same:
         faults.append("4 workers give something else than one thread")
     if is_spread is not None and not (most >= SEVERAL if is_spread else most == 1):
@@ -227,9 +243,10 @@ def tell(faults_by_case):
 
 def cases(program, folder):
     """Each line, and its faults."""
-    for lines, is_spread in ((ALONE, False), (EITHER, None), (SPREAD, True)):
+    kinds = ((ALONE, False, []), (EITHER, None, []), (SLOW, True, []), (SPREAD, True, ["--always-spread"]))
+    for lines, is_spread, own in kinds:
         for line in lines.splitlines():
-            yield line, faults_of(program, shlex.split(line), folder, is_spread)
+            yield line, faults_of(program, shlex.split(line), folder, is_spread, own)
 
 
 def main():

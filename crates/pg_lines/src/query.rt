@@ -206,11 +206,6 @@ impl<A: Allocator> Query<A> {
         let row = self.row()?;
         if row.is_first { Some(row) } else { None }
     }
-
-    /// Whether lines are looked for by such a row, and not by many literals. It decides about speed alone.
-    pub fn has_row(&self) -> bool {
-        self.first_row().is_some() && self.literal_set.is_none()
-    }
 }
 
 /// The selector of a text each of whose patterns is an expression.

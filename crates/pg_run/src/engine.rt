@@ -99,11 +99,11 @@ pub(crate) fn is_endless(format: Format) -> bool
 }
 
 /// Whether blocks are to wait for a round: where several threads may search, and that pays, by how fast the last
-/// blocks were searched, or where too few were, by what searches them.
-fn is_spread<Q: BlockSearch>(query: &Q, setup: &Setup, pace: Pace) -> bool
+/// blocks were searched.
+fn is_spread(setup: &Setup, pace: Pace) -> bool
     ensures { result ≡ true → is_endless setup.now.format ≡ true }
 {
-    let pays = setup.always_spread || pace.is_slow.unwrap_or(query.is_slow());
+    let pays = setup.always_spread || pace.is_slow;
     pays && setup.workers > 0 && setup.round > 1 && is_endless(setup.format)
 }
 
@@ -173,7 +173,7 @@ impl<'q, A: Allocator + Copy, Q: BlockSearch<Alloc = A>> Engine<'q, A, Q> {
         ensures trees { OnOk result (HasTrees (arc_value selector)) }
     {
         let pace = Pace::new();
-        let spread = is_spread(query, &setup, pace);
+        let spread = is_spread(&setup, pace);
         let terminator = selector.text().terminator();
         let sequencer = Sequencer::new(alloc, selector, setup.format)?;
         let scratch = query.scratch()?;
@@ -303,7 +303,7 @@ impl<'q, A: Allocator + Copy, Q: BlockSearch<Alloc = A>> Engine<'q, A, Q> {
         ensures holds { PlansStay self.old self.new }
     {
         if self.round.is_empty() {
-            self.spread = is_spread(self.query, &self.setup, self.pace);
+            self.spread = is_spread(&self.setup, self.pace);
         }
     }
 

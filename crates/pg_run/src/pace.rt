@@ -2,7 +2,7 @@
 
 use std::time::{Clock, Duration};
 
-/// So many bytes are measured before a verdict.
+/// So many bytes are measured before a verdict, or so many nanoseconds.
 const MEASURED: u64 = 1_048_576;
 
 /// A search that takes more than a nanosecond a byte is slow: a faster one was seen to gain nothing by several threads.
@@ -10,6 +10,10 @@ const BYTES_A_NANO: u64 = 1;
 
 /// By several threads a byte was seen to take up to about so many times the processor time that it takes by one.
 const SPREAD_COST: u64 = 2;
+
+/// After so many verdicts in a row that the search is slow, one thread searches alone again: while several search it is
+/// only guessed what one would take, and what else the machine does may have made it slow.
+const SLOW_VERDICTS: u32 = 32;
 
 /// What a clock shows, if it can be read.
 pub(crate) fn time<R: Clock>(rt: &R) -> Option<Duration> {
@@ -33,8 +37,10 @@ pub(crate) struct Pace {
     bytes: u64,
     /// It took so many nanoseconds, of all threads together, as if one had searched alone.
     nanos: u64,
-    /// The last verdict: whether the search was slow.
-    pub(crate) is_slow: Option<bool>,
+    /// The last verdict: whether the search was slow. Until there is one it isn't.
+    pub(crate) is_slow: bool,
+    /// So many verdicts in a row were that it was.
+    slow_verdicts: u32,
 }
 
 impl Pace {
@@ -43,7 +49,8 @@ impl Pace {
         Pace {
             bytes: 0,
             nanos: 0,
-            is_slow: None,
+            is_slow: false,
+            slow_verdicts: 0,
         }
     }
 
@@ -74,17 +81,25 @@ impl Pace {
     fn with(self, bytes: u64, nanos: u64) -> Pace {
         let bytes = self.bytes.saturating_add(bytes);
         let nanos = self.nanos.saturating_add(nanos);
-        if bytes < MEASURED {
+        if bytes < MEASURED && nanos < MEASURED {
             return Pace {
                 bytes,
                 nanos,
-                is_slow: self.is_slow,
+                ..self
             };
         }
+        let is_slow = nanos.saturating_mul(BYTES_A_NANO) > bytes
+            && self.slow_verdicts < SLOW_VERDICTS;
+        let slow_verdicts = if is_slow {
+            self.slow_verdicts.saturating_add(1)
+        } else {
+            0
+        };
         Pace {
             bytes: 0,
             nanos: 0,
-            is_slow: Some(nanos.saturating_mul(BYTES_A_NANO) > bytes),
+            is_slow,
+            slow_verdicts,
         }
     }
 }

@@ -4,14 +4,11 @@ ghost use Rattle.pg_match.specs.Machines.{Fits};
 
 use crate::gate::Gate;
 use pg_blocks::Block;
-use pg_lines::{Kind, Query, Scratch, search_block};
+use pg_lines::{Query, Scratch, search_block};
 use pg_selection::BlockResult;
 use pg_workers::BlockSearch;
 use std::alloc::{AllocError, Allocator};
 use std::sync::Arc;
-
-/// Literals of fewer bytes stand in many lines.
-const RARE: usize = 2;
 
 /// A query, whose search of each block a gate is told of. Blocks may be searched whose lines have at most 2^30 bytes
 /// each, by scratches that were made for the query's machine.
@@ -43,22 +40,6 @@ impl<A: Allocator + Copy, G: Gate> BlockSearch for GatedQuery<'_, A, G> {
         } else {
             Scratch::new(self.alloc, self.query.machine())
         }
-    }
-
-    /// Whether the machine is likely to be asked about most lines. Of other queries one thread finds the lines as fast
-    /// as they are read; also of most lists of fixed strings, which have too many literals to tell, and of rows of
-    /// sets.
-    fn is_slow(&self) -> bool {
-        if self.query.has_row() {
-            return false;
-        }
-        let literals = self.query.literals();
-        if literals.is_empty() {
-            return self.query.text().kind != Kind::Fixed;
-        }
-        literals
-            .iter()
-            .any(|literal| !literal.is_enough && literal.text.len() < RARE)
     }
 
     fn search(

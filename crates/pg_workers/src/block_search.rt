@@ -32,10 +32,6 @@ pub trait BlockSearch {
     fn scratch(&self) -> Result<Self::Scratch, AllocError>
         ensures fits { IfOk result (seen self.now).fits };
 
-    /// Whether it is likely to take so long for a block that several threads are worth their starting. It has no part
-    /// in what is found.
-    fn is_slow(&self) -> bool;
-
     /// Searches a block, which has this number in its round, from 0. The block may be searched, and the scratch was
     /// made for this search; it serves again.
     ///
