@@ -109,7 +109,8 @@ LOG = """
 -cE (GET|HEAD).*404
 """
 
-# Rows of sets: rare ones, common ones, and some of which the log has parts everywhere.
+# Rows of sets: rare ones, common ones, and some of which the log has parts everywhere. And single bytes that stand
+# nowhere, which the automaton would have to confirm.
 SETS = r"""
 -c [^[:print:]]
 -c [0-9]
@@ -122,6 +123,13 @@ SETS = r"""
 -cE (ab|cd|ef|gh|ij)k
 -cE id=[0-9a-f]{3}x
 -cE (GET|POST).*#[0-9]
+-cE [[:punct:]]{3}
+-cE [a-z.]+@[a-z]+[.][a-z]{2,}
+-cE \([^)]*\)
+-cE z[a-z]*z
+-c ^#
+-c ^$
+-cE [a-z]{5}_[a-z]{5}
 """
 
 LISTS = ("-c", "-ci", "-cw", "-cx", "-o", "-cvx")

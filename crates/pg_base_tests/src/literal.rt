@@ -245,7 +245,7 @@ fn place_of(
     match RowFinder::of(alloc, trees, Bounds::Any, fold, b'\n', &literals)? {
         Some(finder) => {
             let _ = out.push_str(if finder.is_first { "" } else { "later " });
-            Ok(Some(finder.find(text, 0)))
+            Ok(Some(finder.find(text)))
         }
         None => Ok(None),
     }

@@ -15,9 +15,9 @@ use Rattle.pg_lines.specs.Gathered.{IsNextLine}
 use Rattle.pg_lines.specs.Literals.{LiteralData, HoldsOne, AreLiterals}
 use Rattle.pg_lines.specs.Candidates.{AreWithout, IsFirstWith, IsLineAt, IsNextWith}
 use Rattle.pg_lines.specs.Finding.{HasNoNextHit}
-use Rattle.pg_lines.specs.declared.needle.Candidate.{Candidate}
-use Rattle.pg_lines.specs.declared.needle_set.NextLine.{NextLine}
-use Rattle.pg_lines.specs.declared.needle_set.NextLine.TheVariants.{Found, Nowhere, GaveUp}
+use Rattle.pg_lines.specs.declared.candidate.Candidate.{Candidate}
+use Rattle.pg_lines.specs.declared.candidate.NextLine.{NextLine}
+use Rattle.pg_lines.specs.declared.candidate.NextLine.TheVariants.{Found, Nowhere, GaveUp}
 use Rattle.pg_blocks.specs.declared.span.Span.{Span}
 use Rattle.pg_lines.proofs.HitLemmas.{without_missed, held_hit}
 use Rattle.pg_blocks.proofs.LineLemmas.{lines-append, whole_append}

@@ -3,7 +3,7 @@ use Rattle.std.proofs.Common.{◌≡◌, ◌<◌, ◌≤◌, ◌+◌, ◌-◌, �
 use Rattle.std.proofs.Common.{inr}
 use Rattle.std.proofs.Common.{List, [], ◌∷◌, length, get_or, set, map, take, drop, cond, refl, sym, ap, ◌∙◌, subst}
 use Rattle.std.proofs.Common.{arith, length-drop}
-use Rattle.std.specs.Option.{IfSome, IsSomeAnd}
+use Rattle.std.specs.Option.{IfNone, IfSome, IsSomeAnd}
 use Rattle.std.specs.List.{All, Any, Contains}
 use Rattle.std.proofs.lemmas.Bool.{cases_lt}
 use Rattle.std.proofs.lemmas.List.{drop_at, length-take-le, take-append-drop, length-map}
@@ -13,15 +13,16 @@ use Rattle.memchr.specs.Find.{OccursAt, FindsNeedle}
 use Rattle.pg_literal.specs.Literals.{as_searched}
 use Rattle.pg_literal.specs.Rows.{byte_as_searched}
 use Rattle.pg_literal.proofs.FoldLemmas.{length_searched, searched_append}
-use Rattle.pg_blocks.specs.Lines.{lines, IsLine, AreWhole, IsClear, Stops}
-use Rattle.pg_lines.specs.Literals.{LiteralData, AreLiterals}
+use Rattle.pg_blocks.specs.Lines.{lines, IsLine}
+use Rattle.pg_lines.specs.Literals.{LiteralData}
 use Rattle.pg_selection.specs.Search.{SearchText, terminator_of}
-use Rattle.pg_lines.specs.Candidates.{AreWithout, IsFirstWith, literal_of, IsAhead, StandsAt, IsBefore, IsNeedleList}
+use Rattle.pg_lines.specs.Candidates.{AreWithout, IsFirstWith, IsLineAround}
+use Rattle.pg_lines.specs.Candidates.{literal_of, IsAhead, StandsAt, IsBefore, IsNeedleList}
 use Rattle.pg_lines.specs.declared.needle.Needle.{Needle}
 use Rattle.pg_lines.specs.declared.needle.NeedleList.{NeedleList}
 use Rattle.pg_lines.specs.declared.needle.Place.{Place}
-use Rattle.pg_lines.specs.declared.needle.Candidate.{Candidate}
-use Rattle.pg_lines.proofs.RunLemmas.{NoneBefore, nowhere_lines, without_each, line_around, place_below, line_some}
+use Rattle.pg_lines.specs.declared.candidate.Candidate.{Candidate}
+use Rattle.pg_lines.proofs.RunLemmas.{NoneBefore, nowhere_lines, without_each, first_found}
 use Rattle.pg_literal.proofs.RowLemmas.{any-unmap}
 
 -- what occurs behind a place occurs in the whole
@@ -41,6 +42,11 @@ occurs_part xs p at k within o = record {
       let same : at + (k + j) ≡ at + k + j = omega arith in
       get_or-drop at xs (k + j) 0 ∙ (ap (λ n. get_or xs n 0) same ∙ o.reads j less);
 }
+
+-- what holds anyway holds where there is nothing
+pub if_none : {X : Type 0} (P : Type 0) (o : Option X) → P → IfNone o P
+if_none P None p = p
+if_none P (Some x) p = tt
 
 -- where a needle's next place is
 abbrev pub IsNext : List ℕ → ℕ → List ℕ → Option ℕ → Type 0
@@ -200,57 +206,37 @@ module _ (fold : Bool) (bytes searched : List ℕ) (at : ℕ) (needles : List Ne
       not_before p m None before some = absurd some
       not_before p m (Some n) before some = omega arith
 
+  -- a needle stands within the bytes
+  pub stands_within : (place : Place) → Any (StandsAt place) needles → place.at ≤ length bytes
+  stands_within place stands =
+      let n = stands.1 in
+      let own = (All-contains (IsAhead searched at) needles n ahead (stands.0, stands.2, stands.3)).stands in
+      let here = subst (λ o. IfSome o (OccursAt searched n.finder)) stands.4.0 own in
+      let fits = here.fits in
+      omega (arith, fits, searched_length fold bytes searched is)
+
   -- the line around the least place
-  pub line_of_least : (end : ℕ) (place : Place) (start stop : ℕ) (found : Candidate)
-      → byte_as_searched fold end ≡ end → All (λ l. IsLine end l.text) (map literal_of needles) → at ≤ place.at
-      → Any (StandsAt place) needles → All (IsBefore (Some place)) needles → found.is_enough ≡ place.is_enough
-      → start ≤ place.at - at → IsClear end (drop at bytes) start (place.at - at)
-      → AreWhole end (take start (drop at bytes))
-      → (e : ℕ) × (place.at - at ≤ e) × IsClear end (drop at bytes) (place.at - at) e × Stops end (drop at bytes) e stop
-      → 0 < length (drop at bytes) → found.line.start ≡ at + start → found.line.end ≡ at + stop
+  pub line_of_least : (end : ℕ) (place : Place) (found : Candidate) → byte_as_searched fold end ≡ end
+      → All (λ l. IsLine end l.text) (map literal_of needles) → All (λ n. IfSome n.next (λ p. at ≤ p)) needles
+      → Any (StandsAt place) needles → All (IsBefore (Some place)) needles → place.is_enough ≡ found.is_enough
+      → 0 < length (drop at bytes) → IsLineAround end at (drop at bytes) (place.at - at) found.line
       → IsFirstWith fold end (map literal_of needles) at (drop at bytes) found
       × (found.line.start < found.line.end) × (found.line.end ≤ length bytes)
-  line_of_least end place start stop found plain alone low stands least flag before clear whole behind some starts
-      ends =
+  line_of_least end place found plain alone behind stands least flag some h =
       let n = stands.1 in
       let among : Contains needles n = (stands.0, stands.2, stands.3) in
       let own = (All-contains (IsAhead searched at) needles n ahead among).stands in
       let here = subst (λ o. IfSome o (OccursAt searched n.finder)) stands.4.0 own in
       let k = place.at - at in
+      let low = least_behind at needles place behind stands in
       let from : place.at ≡ at + k = omega arith in
       let o = part_place fold bytes searched at is within n.finder k (subst (OccursAt searched n.finder) from here) in
       let literals = map literal_of needles in
       let all = to_literal needles n among in
-      let none = none_before place low least in
       let line = All-contains (λ l. IsLine end l.text) literals (literal_of n) alone all in
-      let size = length_searched fold (drop at bytes) in
-      let below = place_below (as_searched fold (drop at bytes)) n.finder k o (none (literal_of n) all)
-      (omega (arith, size, some)) in
-      let sides = line_some end (drop at bytes) start k behind.0 stop before behind.1
-      (omega (arith, below, size)) behind.3 in (
-        line_around fold end literals (literal_of n) (drop at bytes) at start k stop found plain line all
-            (stands.4.1 ∙ sym flag) o none before clear whole behind some starts ends,
-        omega (arith, sides.0),
-        omega (arith, sides.1, length-drop at bytes),
-      )
-
-  -- the same, where the line was looked for by the terminator that was asked for, in the bytes that were cut off
-  pub next_found : (E end : ℕ) (rest : List ℕ) (place : Place) (start stop : ℕ) → end ≡ E → rest ≡ drop at bytes
-      → byte_as_searched fold E ≡ E → All (λ l. IsLine E l.text) (map literal_of needles)
-      → All (λ n. IfSome n.next (λ p. at ≤ p)) needles → Any (StandsAt place) needles
-      → All (IsBefore (Some place)) needles → start ≤ place.at - at → IsClear end rest start (place.at - at)
-      → AreWhole end (take start rest)
-      → (e : ℕ) × (place.at - at ≤ e) × IsClear end rest (place.at - at) e × Stops end rest e stop → 0 < length rest
-      → IsFirstWith fold E (map literal_of needles) at (drop at bytes)
-      (record { line = record { start = at + start; end = at + stop }; is_enough = place.is_enough })
-      × (at + start < at + stop) × (at + stop ≤ length bytes)
-  next_found E end rest place start stop same whole plain alone behind stands least before clear front ends some =
-      let k = place.at - at in
-      let Around : ℕ → List ℕ → Type 0 = λ t xs. IsClear t xs start k × AreWhole t (take start xs)
-      × ((e : ℕ) × (k ≤ e) × IsClear t xs k e × Stops t xs e stop) × (0 < length xs) in
-      let all = subst (λ t. Around t (drop at bytes)) same (subst (Around end) whole (clear, front, ends, some)) in
-      line_of_least E place start stop _ plain alone (least_behind at needles place behind stands) stands least refl
-      before all.0 all.1 all.2 all.3 refl refl
+      let first = first_found fold end literals (literal_of n) (drop at bytes) at k found plain line all
+      (stands.4.1 ∙ flag) o (none_before place low least) some h in
+      (first.0, first.1, omega (arith, first.2, length-drop at bytes))
 
 -- a needle's place that a lesser one replaces
 before_more : (old new : Option Place) (n : Needle) → IfSome old (λ p. IsSomeAnd new (λ q. q.at ≤ p.at))
@@ -297,14 +283,3 @@ literals_set [] i n d below same = absurd (omega arith)
 literals_set (m ∷ needles) zero n d below same = ap (λ l. l ∷ map literal_of needles) same
 literals_set (m ∷ needles) (suc i) n d below same =
     ap (λ ls. literal_of m ∷ ls) (literals_set needles i n d (omega arith) same)
-
--- needles of the same literals that were found anew
-pub needles_moved : {A : Type 0} (text : SearchText) (bytes : List ℕ) (at : ℕ) (old new : NeedleList A)
-    → IsNeedleList text bytes at old → 0 < length old.needles.items → new.searched ≡ old.searched
-    → map literal_of new.needles.items ≡ map literal_of old.needles.items
-    → All (IsAhead new.searched.now at) new.needles.items → IsNeedleList text bytes at new
-needles_moved text bytes at old new needles some searched literals ahead = record {
-  literals = subst (λ ls. AreLiterals text ls) (sym literals) needles.literals;
-  searched = λ _. ap (λ xs. xs.now) searched ∙ needles.searched some;
-  ahead = ahead;
-}

@@ -16,7 +16,7 @@ use Rattle.pg_literal.specs.Rows.{StandsAt}
 use Rattle.pg_literal.specs.declared.row_finder.RowFinder.{RowFinder}
 use Rattle.pg_literal.proofs.FinderLemmas.{each_stands, stands_each, stands_fits}
 use Rattle.pg_literal.proofs.RowLemmas.{stands_within}
-use Rattle.pg_blocks.specs.Lines.{lines, terminated, IsLine, AreWhole, IsClear, Stops}
+use Rattle.pg_blocks.specs.Lines.{lines, terminated, IsLine, Stops}
 use Rattle.pg_blocks.proofs.LineLaws.{lines_are_lines}
 use Rattle.pg_blocks.proofs.LineLemmas.{made, around}
 use Rattle.pg_selection.specs.Search.{SearchText, Pattern, Bounds, AreTreesOf, bounds_of, search_of, terminator_of}
@@ -26,12 +26,12 @@ use Rattle.pg_selection.specs.Runs.{AllLines}
 use Rattle.pg_selection.proofs.SelectLemmas.{selects_decides}
 use Rattle.pg_selection.proofs.TreeLemmas.{same_trees}
 use Rattle.pg_lines.specs.Literals.{HoldsRow, IsRowOf, finder_row}
-use Rattle.pg_lines.specs.Candidates.{AreWithoutRow, IsFirstWithRow, IsNextWithRow}
-use Rattle.pg_lines.specs.declared.needle.Candidate.{Candidate}
-use Rattle.pg_lines.specs.declared.needle_set.NextLine.{NextLine}
-use Rattle.pg_lines.specs.declared.needle_set.NextLine.TheVariants.{Found, Nowhere, GaveUp}
+use Rattle.pg_lines.specs.Candidates.{AreWithoutRow, IsFirstWithRow, IsLineAround, IsNextWithRow}
+use Rattle.pg_lines.specs.declared.candidate.Candidate.{Candidate}
+use Rattle.pg_lines.specs.declared.candidate.NextLine.{NextLine}
+use Rattle.pg_lines.specs.declared.candidate.NextLine.TheVariants.{Found, Nowhere, GaveUp}
 use Rattle.pg_lines.proofs.CandidateLemmas.{IsFirstCandidate, IsNextCandidate, all_more}
-use Rattle.pg_lines.proofs.RunLemmas.{all_by_index, line_at, line_some}
+use Rattle.pg_lines.proofs.RunLemmas.{all_by_index, around_is}
 
 -- the sets of a row
 abbrev Sets : Type 0
@@ -116,42 +116,35 @@ module _ {A : Type 0} (text : SearchText) (finder : RowFinder A) (is : IsRowOf t
       none i (omega arith) (omega (arith, fits, is.some)) o)
 
   -- the line around the first place at which it stands is the first that has it
-  pub first_row : (end : ℕ) (bytes : List ℕ) (at s k stop : ℕ) → end ≡ terminator_of text
+  pub first_row : (at : ℕ) (bytes : List ℕ) (k : ℕ) (found : Candidate)
       → F.Nowhere (StandsAt bytes (finder_row finder)) 0 k → k < length bytes → StandsAt bytes (finder_row finder) k
-      → s ≤ k → IsClear end bytes s k
-      → AreWhole end (take s bytes) → (e : ℕ) × (k ≤ e) × IsClear end bytes k e × Stops end bytes e stop
-      → IsFirstWithRow (terminator_of text) finder at bytes
-      (record { line = record { start = at + s; end = at + stop }; is_enough = finder.is_enough })
-      × (s < stop) × (stop ≤ length bytes)
-  first_row end bytes at s k stop same none below o low before front behind =
+      → finder.is_enough ≡ found.is_enough → IsLineAround (terminator_of text) at bytes k found.line
+      → IsFirstWithRow (terminator_of text) finder at bytes found
+      × (found.line.start < found.line.end) × (found.line.end ≤ at + length bytes)
+  first_row at bytes k found none below o flag h =
       let E = terminator_of text in
-      let Around : ℕ → Type 0 = λ t. IsClear t bytes s k × AreWhole t (take s bytes)
-      × ((e : ℕ) × (k ≤ e) × IsClear t bytes k e × Stops t bytes e stop) in
-      let all = subst Around same (before, front, behind) in
-      let h = all.2 in
-      let within : h.0 ≤ length bytes = elim h.3 [ inl m ↦ omega (arith, m.1) | inr m ↦ omega (arith, m.1) ] in
-      let sides = line_some E bytes s k h.0 stop low h.1 below h.3 in
-      let clear : IsClear E bytes s h.0 =
-      λ i from to. elim (cases_lt i k) [ inl less ↦ all.0 i from less | inr more ↦ h.2 i more to ] in (
+      let line = around_is E at bytes k found.line h below in
+      let low = h.low in (
         record {
-          s = s;
-          e = h.0;
-          stop = stop;
-          is = line_at E bytes s h.0 stop (omega (arith, h.1)) within sides.0 clear h.3;
-          front = all.1;
-          without = lines_without E (take s bytes) (finder_row finder) (λ i o.
-              let fits = stands_fits (take s bytes) (finder_row finder) i o in
-              let size = length-take-le s bytes (omega arith) in
-              none i (omega arith) (omega (arith, fits, size, is.some)) (stands_upto bytes (finder_row finder) s i o));
+          s = h.s;
+          e = h.e;
+          stop = h.stop;
+          is = line.0;
+          front = h.front;
+          without = lines_without E (take h.s bytes) (finder_row finder) (λ i o.
+              let fits = stands_fits (take h.s bytes) (finder_row finder) i o in
+              let size = length-take-le h.s bytes (omega arith) in
+              let whole = stands_upto bytes (finder_row finder) h.s i o in
+              none i (omega arith) (omega (arith, fits, size, is.some)) whole);
           holds =
-              let fits = row_ends E bytes (finder_row finder) k h.0 stop is.within o h.1 h.3 in
-              (k - s, stands_part bytes (finder_row finder) s h.0 k low within fits o);
-          enough = refl;
-          starts = refl;
-          ends = refl;
+              let fits = row_ends E bytes (finder_row finder) k h.e h.stop is.within o h.high h.stops in
+              (k - h.s, stands_part bytes (finder_row finder) h.s h.e k low line.3 fits o);
+          enough = sym flag;
+          starts = h.starts;
+          ends = h.ends;
         },
-        sides.0,
-        sides.1,
+        omega (arith, line.1, h.starts, h.ends),
+        omega (arith, line.2, h.ends),
       )
 
   -- lines without the row have no hit

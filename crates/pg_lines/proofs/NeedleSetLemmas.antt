@@ -1,6 +1,6 @@
 -- Where one of many literals stands.
 use Rattle.std.proofs.Common.{◌≡◌, ◌<◌, ◌≤◌, ◌+◌, ◌-◌, ℕ, Bool, IsTrue, inl, inr, Vec, Option, None, Some}
-use Rattle.std.proofs.Common.{List, [], ◌∷◌, length, map, take, drop, refl, sym, ap, ◌∙◌, subst, arith, length-drop}
+use Rattle.std.proofs.Common.{List, [], ◌∷◌, length, map, drop, refl, sym, ap, ◌∙◌, subst, arith, length-drop}
 use Rattle.std.specs.Option.{IfSome}
 use Rattle.std.specs.List.{All, Contains}
 use Rattle.std.proofs.lemmas.Bool.{cases_lt}
@@ -11,7 +11,7 @@ use Rattle.pg_literal.specs.Literals.{as_searched, Holds}
 use Rattle.pg_literal.specs.Rows.{byte_as_searched}
 use Rattle.pg_literal.proofs.FoldLemmas.{length_searched}
 use Rattle.pg_strings.specs.Sets.{SomeStands}
-use Rattle.pg_blocks.specs.Lines.{lines, IsLine, AreWhole, IsClear, Stops}
+use Rattle.pg_blocks.specs.Lines.{lines, IsLine}
 use Rattle.pg_selection.specs.Search.{SearchText, Fixed, patterns, terminator_of}
 use Rattle.pg_lines.specs.Strings.{IsSetOf}
 use Rattle.pg_strings.specs.Keys.{items_of}
@@ -19,9 +19,10 @@ use Rattle.pg_strings.specs.Outcomes.{strings_of}
 use Rattle.pg_literal.specs.declared.literal.Literal.{Literal}
 use Rattle.pg_lines.specs.declared.literal_set.LiteralSet.{LiteralSet}
 use Rattle.pg_lines.specs.Literals.{LiteralData, flagged, set_literals, data_of, IsEnough, AreLiterals}
-use Rattle.pg_lines.specs.Candidates.{AreWithout, IsFirstWith}
+use Rattle.pg_lines.specs.declared.candidate.Candidate.{Candidate}
+use Rattle.pg_lines.specs.Candidates.{AreWithout, IsFirstWith, IsLineAround}
 use Rattle.pg_lines.proofs.NeedleLemmas.{searched_length, whole_place, part_place}
-use Rattle.pg_lines.proofs.RunLemmas.{NoneBefore, nowhere_lines, without_each, line_around, place_below, line_some}
+use Rattle.pg_lines.proofs.RunLemmas.{NoneBefore, nowhere_lines, without_each, first_found}
 use Rattle.pg_literal.proofs.RowLemmas.{any-map, any-unmap}
 
 -- literals with one flag, which is that of each of them where it is set
@@ -99,40 +100,24 @@ module _ (fold : Bool) (bytes searched : List ℕ) (at : ℕ) (strings : List (L
       before k (omega arith) low o))
 
   -- the line around the first place at which a string stands
-  pub line_of_first : (E end : ℕ) (rest : List ℕ) (place start stop : ℕ) → end ≡ E → rest ≡ drop at bytes
-      → byte_as_searched fold E ≡ E → All (λ l. IsLine E l.text) literals
-      → IsFirstOf (SomeStands strings searched) at (length searched) place → SomeStands strings searched place
-      → start ≤ place - at → IsClear end rest start (place - at) → AreWhole end (take start rest)
-      → (e : ℕ) × (place - at ≤ e) × IsClear end rest (place - at) e × Stops end rest e stop
-      → IsFirstWith fold E literals at (drop at bytes)
-      (record { line = record { start = at + start; end = at + stop }; is_enough = enough })
-      × (at + start < at + stop) × (at + stop ≤ length bytes)
-  line_of_first E end rest place start stop same whole plain alone first stands before clear front ends =
-      let k = place - at in
-      let Around : ℕ → List ℕ → Type 0 = λ t xs. IsClear t xs start k × AreWhole t (take start xs)
-      × ((e : ℕ) × (k ≤ e) × IsClear t xs k e × Stops t xs e stop) in
-      let all = subst (λ t. Around t (drop at bytes)) same (subst (Around end) whole (clear, front, ends)) in
+  pub line_of_first : (end place : ℕ) (found : Candidate) → byte_as_searched fold end ≡ end
+      → All (λ l. IsLine end l.text) literals → IsFirstOf (SomeStands strings searched) at (length searched) place
+      → SomeStands strings searched place → enough ≡ found.is_enough
+      → IsLineAround end at (drop at bytes) (place - at) found.line
+      → IsFirstWith fold end literals at (drop at bytes) found × (found.line.start < found.line.end)
+      × (found.line.end ≤ length bytes)
+  line_of_first end place found plain alone first stands flag h =
       let s = stands.1 in
-      let among : Contains strings s = (stands.0, stands.2, stands.3) in
       let low = first.low in
-      let from : place ≡ at + k = omega arith in
+      let from : place ≡ at + (place - at) = omega arith in
       let here = subst (OccursAt searched s) from stands.4 in
-      let o = part_place fold bytes searched at is (omega (arith, within)) s k here in
-      let none = none_up_to place first.before in
-      let in_set = to_literal enough strings s among in
-      let line = All-contains (λ l. IsLine E l.text) literals (flagged enough s) alone in_set in
-      let size = length_searched fold (drop at bytes) in
+      let o = part_place fold bytes searched at is (omega (arith, within)) s (place - at) here in
+      let in_set = to_literal enough strings s (stands.0, stands.2, stands.3) in
+      let line = All-contains (λ l. IsLine end l.text) literals (flagged enough s) alone in_set in
       let long = length-drop at bytes in
-      let some : 0 < length (drop at bytes) = omega (arith, long, within) in
-      let below = place_below (as_searched fold (drop at bytes)) s k o (none (flagged enough s) in_set)
-      (omega (arith, size, some)) in
-      let sides = line_some E (drop at bytes) start k all.2.0 stop before all.2.1 (omega
-      (arith, below, size)) all.2.3 in (
-        line_around fold E literals (flagged enough s) (drop at bytes) at start k stop _ plain line in_set
-            refl o none before all.0 all.1 all.2 some refl refl,
-        omega (arith, sides.0),
-        omega (arith, sides.1, long),
-      )
+      let all = first_found fold end literals (flagged enough s) (drop at bytes) at (place - at) found plain line in_set
+      flag o (none_up_to place first.before) (omega (arith, long, within)) h in
+      (all.0, all.1, omega (arith, all.2, long, within))
 
 -- what holds of the elements seen holds of what is seen of them
 pub all_unmap : {X Y : Type 0} (P : Y → Type 0) (f : X → Y) (xs : List X) → All P (map f xs) → All (λ x. P (f x)) xs

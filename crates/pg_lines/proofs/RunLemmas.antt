@@ -17,8 +17,9 @@ use Rattle.pg_selection.specs.Selection.{selects}
 use Rattle.pg_selection.specs.Runs.{AllLines, IsNextRun}
 use Rattle.pg_lines.specs.Gathered.{IsNextLine}
 use Rattle.pg_lines.specs.Literals.{LiteralData, HoldsOne}
-use Rattle.pg_lines.specs.Candidates.{IsLineAt, IsFirstWith}
-use Rattle.pg_lines.specs.declared.needle.Candidate.{Candidate}
+use Rattle.pg_blocks.specs.declared.span.Span.{Span}
+use Rattle.pg_lines.specs.Candidates.{IsLineAround, IsLineAt, IsFirstWith}
+use Rattle.pg_lines.specs.declared.candidate.Candidate.{Candidate}
 use Rattle.pg_selection.specs.declared.run.Run.{Run}
 use Rattle.pg_selection.proofs.RunLemmas.{lines_apart}
 use Rattle.pg_blocks.specs.declared.span.Span.{Span}
@@ -300,64 +301,68 @@ abbrev pub NoneBefore : Bool → List LiteralData → List ℕ → ℕ → Type 
 NoneBefore fold literals bytes k =
     (l : LiteralData) → Contains literals l → Nowhere (OccursAt (as_searched fold bytes) l.text) 0 k
 
--- the first line in which a literal occurs: the literal at k, the line's text from s up to e, and the next line at
--- `stop`
-first_found : (fold : Bool) (end : ℕ) (literals : List LiteralData) (l : LiteralData) (bytes : List ℕ)
-    (at s k e stop : ℕ) (found : Candidate) → byte_as_searched fold end ≡ end → IsLine end l.text
-    → Contains literals l → l.is_enough ≡ found.is_enough → OccursAt (as_searched fold bytes) l.text k
-    → NoneBefore fold literals bytes k → s ≤ k → k ≤ e → AreWhole end (take s bytes) → IsClear end bytes s e
-    → Stops end bytes e stop → s < stop → found.line.start ≡ at + s → found.line.end ≡ at + stop
-    → IsFirstWith fold end literals at bytes found
-first_found fold end literals l bytes at s k e stop found plain alone among flag o none low high front clear stops
-    longer starts ends =
+-- the line that a byte is in
+pub around_is : (end at : ℕ) (bytes : List ℕ) (k : ℕ) (line : Span) (h : IsLineAround end at bytes k line)
+    → k < length bytes → IsLineAt end bytes h.s h.e h.stop × (h.s < h.stop) × (h.stop ≤ length bytes)
+    × (h.e ≤ length bytes)
+around_is end at bytes k line h below =
+    let within : h.e ≤ length bytes = elim h.stops [ inl m ↦ omega (arith, m.1) | inr m ↦ omega (arith, m.1) ] in
+    let sides = line_some end bytes h.s k h.e h.stop h.low h.high below h.stops in
+    let low = h.low in
+    let high = h.high in
+    (line_at end bytes h.s h.e h.stop (omega arith) within sides.0 h.clear h.stops, sides.0, sides.1, within)
+
+-- the line around the first place at which a literal occurs is the first that holds one
+pub first_found : (fold : Bool) (end : ℕ) (literals : List LiteralData) (l : LiteralData) (bytes : List ℕ)
+    (at k : ℕ) (found : Candidate) → byte_as_searched fold end ≡ end → IsLine end l.text → Contains literals l
+    → l.is_enough ≡ found.is_enough → OccursAt (as_searched fold bytes) l.text k → NoneBefore fold literals bytes k
+    → 0 < length bytes → IsLineAround end at bytes k found.line
+    → IsFirstWith fold end literals at bytes found × (found.line.start < found.line.end)
+    × (found.line.end ≤ at + length bytes)
+first_found fold end literals l bytes at k found plain alone among flag o none some h =
     let p = l.text in
     let size = length_searched fold bytes in
-    let within : e ≤ length bytes = elim stops [ inl h ↦ omega (arith, h.1) | inr h ↦ omega (arith, h.1) ] in
-    let fits : k + length p ≤ e = elim (cases_lt e (k + length p)) [
+    let searched_below = place_below (as_searched fold bytes) p k o (none l among) (omega (arith, size, some)) in
+    let is = around_is end at bytes k found.line h (omega (arith, size, searched_below)) in
+    let low = h.low in
+    let high = h.high in
+    let fits : k + length p ≤ h.e = elim (cases_lt h.e (k + length p)) [
       | inr fits ↦ fits
-      | inl beyond ↦ elim stops [
-        | inl h ↦
-            let at_e : k + (e - k) ≡ e = omega arith in
+      | inl beyond ↦ elim h.stops [
+        | inl m ↦
+            let at_e : k + (h.e - k) ≡ h.e = omega arith in
             absurd (alone (
-              e - k,
+              h.e - k,
               omega arith,
-              get_or_default p (e - k) end 0 (omega arith)
-                  ∙ (sym (o.reads (e - k) (omega arith))
+              get_or_default p (h.e - k) end 0 (omega arith)
+                  ∙ (sym (o.reads (h.e - k) (omega arith))
                   ∙ (ap (λ n. get_or (as_searched fold bytes) n 0) at_e
-                  ∙ (searched_at fold bytes e h.1 ∙ (ap (byte_as_searched fold) h.2 ∙ plain)))),
+                  ∙ (searched_at fold bytes h.e m.1 ∙ (ap (byte_as_searched fold) m.2 ∙ plain)))),
             ))
-        | inr h ↦ absurd (omega (arith, o.fits, h.1, size))
+        | inr m ↦ absurd (omega (arith, o.fits, m.1, size))
       ]
-    ] in
-    record {
-      s = s;
-      e = e;
-      stop = stop;
-      is = line_at end bytes s e stop (omega arith) within longer clear stops;
-      front = front;
-      without = without_each fold literals (lines end (take s bytes))
-          (λ m is. lines_before fold end m.text bytes s k (none m is) low (omega (arith, o.fits, size)));
-      holds = (among.0, l, among.1, among.2, (flag, (k - s, searched_within fold bytes p s e k within low fits o)));
-      starts = starts;
-      ends = ends;
-    }
-
--- the same, where the line's two ends were looked for from the literal's place
-pub line_around : (fold : Bool) (end : ℕ) (literals : List LiteralData) (l : LiteralData) (bytes : List ℕ)
-    (at s k stop : ℕ) (found : Candidate) → byte_as_searched fold end ≡ end → IsLine end l.text → Contains literals l
-    → l.is_enough ≡ found.is_enough → OccursAt (as_searched fold bytes) l.text k → NoneBefore fold literals bytes k
-    → s ≤ k → IsClear end bytes s k → AreWhole end (take s bytes)
-    → (e : ℕ) × (k ≤ e) × IsClear end bytes k e × Stops end bytes e stop → 0 < length bytes
-    → found.line.start ≡ at + s → found.line.end ≡ at + stop → IsFirstWith fold end literals at bytes found
-line_around fold end literals l bytes at s k stop found plain alone among flag o none low before front h some starts
-    ends =
-    let size = length_searched fold bytes in
-    let clear : IsClear end bytes s h.0 =
-    λ i from to. elim (cases_lt i k) [ inl below ↦ before i from below | inr above ↦ h.2 i above to ] in
-    let searched_below = place_below (as_searched fold bytes) l.text k o (none l among) (omega (arith, size, some)) in
-    let below : k < length bytes = omega (arith, size, searched_below) in
-    first_found fold end literals l bytes at s k h.0 stop found plain alone among flag o none low h.1 front clear h.3
-    (line_some end bytes s k h.0 stop low h.1 below h.3).0 starts ends
+    ] in (
+      record {
+        s = h.s;
+        e = h.e;
+        stop = h.stop;
+        is = is.0;
+        front = h.front;
+        without = without_each fold literals (lines end (take h.s bytes))
+            (λ m here. lines_before fold end m.text bytes h.s k (none m here) low (omega (arith, o.fits, size)));
+        holds = (
+          among.0,
+          l,
+          among.1,
+          among.2,
+          (flag, (k - h.s, searched_within fold bytes p h.s h.e k is.3 low fits o)),
+        );
+        starts = h.starts;
+        ends = h.ends;
+      },
+      omega (arith, is.1, h.starts, h.ends),
+      omega (arith, is.2, h.ends),
+    )
 
 pub all_back : (P : List ℕ → Type 0) (xs ys : List (List ℕ)) → AllByRecursion P (xs ++ ys) → AllByRecursion P ys
 all_back P [] ys h = h

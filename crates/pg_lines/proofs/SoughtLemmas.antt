@@ -1,5 +1,5 @@
 -- What is looked for in a block.
-use Rattle.std.proofs.Common.{◌≤◌, ℕ, Option, Some, None, List, length, map, ◌≡◌, sym, subst, arith}
+use Rattle.std.proofs.Common.{◌≤◌, ℕ, Option, Some, None, List, map, ◌≡◌, sym, subst, arith}
 use Rattle.std.specs.Option.{IfSome, MatchOption}
 use Rattle.std.proofs.lemmas.List.{length-map}
 use Rattle.pg_strings.specs.Outcomes.{strings_of}
@@ -7,8 +7,8 @@ use Rattle.pg_selection.specs.Search.{SearchText}
 use Rattle.pg_lines.specs.Literals.{flagged, set_literals}
 use Rattle.pg_lines.specs.Candidates.{AreNeedles, AreSome, IsNextSought, literal_of}
 use Rattle.pg_lines.specs.Finding.{HasNoNextHit, IsNextHit}
-use Rattle.pg_lines.specs.declared.needle_set.NextLine.{NextLine}
-use Rattle.pg_lines.specs.declared.needle_set.NextLine.TheVariants.{GaveUp}
+use Rattle.pg_lines.specs.declared.candidate.NextLine.{NextLine}
+use Rattle.pg_lines.specs.declared.candidate.NextLine.TheVariants.{GaveUp}
 use Rattle.pg_lines.specs.declared.needles.Needles.{Needles}
 use Rattle.pg_lines.specs.declared.needles.Needles.TheVariants.{Few, Many, Row, GivenUp, TooSlow}
 use Rattle.pg_blocks.specs.declared.span.Span.{Span}

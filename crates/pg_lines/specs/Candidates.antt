@@ -4,7 +4,8 @@ use Rattle.std.specs.Prelude.{Option, IfSome, None, Some, IsSomeAnd}
 use Rattle.std.specs.List.{AllByRecursion, All, Any}
 use Rattle.memchr.specs.Find.{OccursAt}
 use Rattle.pg_literal.specs.Literals.{Holds, as_searched}
-use Rattle.pg_blocks.specs.Lines.{lines, AreWhole}
+use Rattle.pg_blocks.specs.Lines.{lines, AreWhole, IsClear, Stops}
+use Rattle.pg_blocks.specs.declared.span.Span.{Span}
 use Rattle.pg_literal.specs.declared.row_finder.RowFinder.{RowFinder}
 use Rattle.pg_selection.specs.Search.{SearchText, terminator_of}
 use Rattle.pg_lines.specs.Literals.{LiteralData, HoldsOne, HoldsRow, AreLiterals, IsRowOf}
@@ -12,12 +13,12 @@ use Rattle.pg_lines.specs.Literals.{finder_row, set_literals}
 use Rattle.pg_lines.specs.declared.needle.Needle.{Needle}
 use Rattle.pg_lines.specs.declared.needle.NeedleList.{NeedleList}
 use Rattle.pg_lines.specs.declared.needle_set.NeedleSet.{NeedleSet}
-use Rattle.pg_lines.specs.declared.needle_set.NextLine.{NextLine}
-use Rattle.pg_lines.specs.declared.needle_set.NextLine.TheVariants.{Found, Nowhere, GaveUp}
+use Rattle.pg_lines.specs.declared.candidate.NextLine.{NextLine}
+use Rattle.pg_lines.specs.declared.candidate.NextLine.TheVariants.{Found, Nowhere, GaveUp}
 use Rattle.pg_lines.specs.declared.needles.Needles.{Needles}
 use Rattle.pg_lines.specs.declared.needles.Needles.TheVariants.{Few, Many, Row, GivenUp, TooSlow}
 use Rattle.pg_lines.specs.declared.needle.Place.{Place}
-use Rattle.pg_lines.specs.declared.needle.Candidate.{Candidate}
+use Rattle.pg_lines.specs.declared.candidate.Candidate.{Candidate}
 
 -- A line of the bytes: its text from s up to e, and the next line at `stop`.
 pub record IsLineAt (end : ℕ) (bytes : List ℕ) (s e stop : ℕ) : Type 0 where
@@ -29,6 +30,20 @@ pub record IsLineAt (end : ℕ) (bytes : List ℕ) (s e stop : ℕ) : Type 0 whe
   pub len : s + length text ≡ stop
   pub some : text ≢ []
   pub whole : (AreWhole end text × (later ≡ drop stop bytes)) ⊎ ((later ≡ []) × (stop ≡ length bytes))
+
+-- The line that a place is in, of bytes that stand from `at` on: it starts at s, its text ends at e, and the next line
+-- starts at `stop`.
+pub record IsLineAround (end at : ℕ) (bytes : List ℕ) (place : ℕ) (line : Span) : Type 0 where
+  pub s : ℕ
+  pub e : ℕ
+  pub stop : ℕ
+  pub low : s ≤ place
+  pub high : place ≤ e
+  pub front : AreWhole end (take s bytes)
+  pub clear : IsClear end bytes s e
+  pub stops : Stops end bytes e stop
+  pub starts : line.start ≡ at + s
+  pub ends : line.end ≡ at + stop
 
 -- no line of the bytes holds a literal
 abbrev pub AreWithout : Bool → ℕ → List LiteralData → List ℕ → Type 0

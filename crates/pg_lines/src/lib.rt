@@ -5,6 +5,7 @@
 //! literals where that is possible and by the automaton else; a [`BlockResult`] keeps them as runs of lines.
 #![tactic(auto)]
 
+mod candidate;
 mod every_line;
 mod literal_set;
 mod may;

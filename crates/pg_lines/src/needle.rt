@@ -6,9 +6,9 @@ ghost use Rattle.pg_lines.specs.Literals.{data_of};
 ghost use Rattle.pg_lines.specs.Candidates.{literal_of, IsAhead, StandsAt, IsBefore, IsNeedleList};
 ghost use Rattle.pg_lines.specs.Candidates.{AreWithout, IsFirstWith};
 
+use crate::candidate::Candidate;
 use crate::query::Query;
 use memchr::memmem::Finder;
-use pg_blocks::{Span, begin_of_line, end_of_line};
 use pg_literal::Literal;
 use std::alloc::{AllocError, Allocator};
 
@@ -28,15 +28,6 @@ pub(crate) struct Place {
     at: usize,
     /// Each line that holds the needle has a hit.
     is_enough: bool,
-}
-
-/// A line that holds a needle.
-#[derive(Clone, Copy)]
-pub(crate) struct Candidate {
-    /// The line with its terminator.
-    pub line: Span,
-    /// It holds a needle that is enough, so that it has a hit.
-    pub is_enough: bool,
 }
 
 impl<'n> Needle<'n> {
@@ -175,23 +166,11 @@ impl<'n, A: Allocator> NeedleList<'n, A> {
         ensures none { IfNone result (AreWithout query.now.text.fold (terminator_of query.now.text)
             (map literal_of self.new.needles.items) (drop at bytes.now)) }
     {
-        let rest = &bytes[at..];
-        if rest.is_empty() {
+        if at == bytes.len() {
             return None;
         }
         self.advance(at);
-        let Some(first) = self.first() else {
-            return None;
-        };
-        let end = query.terminator();
-        let found = first.at - at;
-        let line = Span {
-            start: at + begin_of_line(end, rest, found),
-            end: at + end_of_line(end, rest, found),
-        };
-        Some(Candidate {
-            line,
-            is_enough: first.is_enough,
-        })
+        let first = self.first()?;
+        Some(Candidate::around(query, bytes, at, first.at, first.is_enough))
     }
 }

@@ -4,11 +4,9 @@ ghost use Rattle.pg_selection.specs.Search.{terminator_of};
 ghost use Rattle.pg_lines.specs.Literals.{IsRowOf};
 ghost use Rattle.pg_lines.specs.Candidates.{IsNextWithRow};
 
-use crate::needle::Candidate;
-use crate::needle_set::NextLine;
+use crate::candidate::{Candidate, NextLine};
 use crate::needles::FAR;
 use crate::query::Query;
-use pg_blocks::{Span, begin_of_line, end_of_line};
 use pg_literal::{RowFinder, RowOutcome};
 use std::alloc::Allocator;
 
@@ -49,22 +47,14 @@ impl<'n, A: Allocator> NeedleRow<'n, A> {
         if self.close >= CROWD && !self.finder.is_enough {
             return NextLine::GaveUp;
         }
-        let rest = &bytes[at..];
-        let found = match self.finder.find(rest, 0) {
-            RowOutcome::Found(place) => place,
+        let place = match self.finder.find(&bytes[at..]) {
+            RowOutcome::Found(found) => at + found,
             RowOutcome::NotFound => return NextLine::Nowhere,
             RowOutcome::GaveUp => return NextLine::GaveUp,
         };
-        let end = query.terminator();
-        let line = Span {
-            start: at + begin_of_line(end, rest, found),
-            end: at + end_of_line(end, rest, found),
-        };
-        let passed = (line.start - at) / FAR;
+        let found = Candidate::around(query, bytes, at, place, self.finder.is_enough);
+        let passed = (found.line.start - at) / FAR;
         self.close = self.close.saturating_sub(passed).saturating_add(1);
-        NextLine::Found(Candidate {
-            line,
-            is_enough: self.finder.is_enough,
-        })
+        NextLine::Found(found)
     }
 }

@@ -4,10 +4,9 @@ ghost use Rattle.pg_selection.specs.Search.{terminator_of};
 ghost use Rattle.pg_lines.specs.Literals.{set_literals};
 ghost use Rattle.pg_lines.specs.Candidates.{IsNeedleSet, IsNextWith};
 
+use crate::candidate::{Candidate, NextLine};
 use crate::literal_set::LiteralSet;
-use crate::needle::Candidate;
 use crate::query::Query;
-use pg_blocks::{Span, begin_of_line, end_of_line};
 use pg_strings::{Budget, Outcome};
 use std::alloc::Allocator;
 
@@ -32,16 +31,6 @@ impl<'n, A: Allocator> Drop for NeedleSet<'n, A> {
     }
 }
 
-/// What the search for the next line that holds a literal came to.
-#[derive(Clone, Copy)]
-pub(crate) enum NextLine {
-    Found(Candidate),
-    /// No line holds one.
-    Nowhere,
-    /// To look for literals takes too long here.
-    GaveUp,
-}
-
 impl<'n, A: Allocator> NeedleSet<'n, A> {
     pub fn new(literals: &'n LiteralSet<A>, searched: &'n [u8]) -> NeedleSet<'n, A>
         ensures literals { result.literals.now ≡ literals.now }
@@ -63,26 +52,13 @@ impl<'n, A: Allocator> NeedleSet<'n, A> {
         ensures next { IsNextWith query.now.text.fold (terminator_of query.now.text)
             (set_literals self.old.literals.now) at bytes.now result }
     {
-        let rest = &bytes[at..];
-        if rest.is_empty() {
+        if at == bytes.len() {
             return NextLine::Nowhere;
         }
-        match self
-            .literals
-            .strings
-            .find(self.searched, at, &mut self.budget)
-        {
+        let set = self.literals;
+        match set.strings.find(self.searched, at, &mut self.budget) {
             Outcome::Found(place) => {
-                let end = query.terminator();
-                let found = place - at;
-                let line = Span {
-                    start: at + begin_of_line(end, rest, found),
-                    end: at + end_of_line(end, rest, found),
-                };
-                NextLine::Found(Candidate {
-                    line,
-                    is_enough: self.literals.is_enough,
-                })
+                NextLine::Found(Candidate::around(query, bytes, at, place, set.is_enough))
             }
             Outcome::NotFound => NextLine::Nowhere,
             Outcome::GaveUp(_) => NextLine::GaveUp,

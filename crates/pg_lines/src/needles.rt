@@ -5,10 +5,11 @@ ghost use Rattle.pg_selection.specs.Search.{SearchText};
 ghost use Rattle.pg_lines.specs.Literals.{AreLiterals, IsRowOf, data_of, set_literals};
 ghost use Rattle.pg_lines.specs.Candidates.{AreNeedles, AreSome, IsNextSought, literals_sought, row_sought};
 
+use crate::candidate::NextLine;
 use crate::literal_set::LiteralSet;
 use crate::needle::NeedleList;
 use crate::needle_row::NeedleRow;
-use crate::needle_set::{NeedleSet, NextLine};
+use crate::needle_set::NeedleSet;
 use crate::query::Query;
 use pg_literal::{Literal, RowFinder};
 use std::alloc::{AllocError, Allocator};
@@ -42,8 +43,7 @@ impl<'n, A: Allocator> Drop for Needles<'n, A> {
 }
 
 impl<'n, A: Allocator> Needles<'n, A> {
-    /// The needles of a set of literals, if there is one, else a row, if there is one, else the needles of a few
-    /// literals.
+    /// A row, if there is one, else the needles of a set of literals, if there is one, else those of a few literals.
     pub fn new(
         alloc: A,
         literals: &'n [Literal<A>],
@@ -58,15 +58,13 @@ impl<'n, A: Allocator> Needles<'n, A> {
             → IfSome set.entry (λ _. searched.now ≡ as_searched text.fold bytes)
             → IfOk result (AreNeedles text bytes 0) }
     {
-        match set {
-            Some(set) => Ok(Needles::Many(NeedleSet::new(set, searched))),
-            None => match row {
-                Some(row) => Ok(Needles::Row(NeedleRow::new(row))),
-                None => {
-                    let list = NeedleList::new(alloc, literals, searched)?;
-                    Ok(Needles::Few(list))
-                }
-            },
+        match (row, set) {
+            (Some(row), _) => Ok(Needles::Row(NeedleRow::new(row))),
+            (None, Some(set)) => Ok(Needles::Many(NeedleSet::new(set, searched))),
+            (None, None) => {
+                let list = NeedleList::new(alloc, literals, searched)?;
+                Ok(Needles::Few(list))
+            }
         }
     }
 

@@ -16,9 +16,9 @@ ghost use Rattle.pg_lines.specs.declared.strings.NextString.TheVariants.{Behind}
 ghost use Rattle.pg_lines.specs.Candidates.{AreNeedles, AreSome};
 ghost use Rattle.pg_lines.specs.Finding.{CanSearch, HasNoNextHit, IsNextHit};
 
+use crate::candidate::NextLine;
 use crate::every_line::{hits_each_line, runs_of_each_line};
 use crate::literal_set::{LiteralSet, fixed_strings};
-use crate::needle_set::NextLine;
 use crate::needles::{FAR, Needles};
 use crate::parts::push_line_parts;
 use crate::query::Query;

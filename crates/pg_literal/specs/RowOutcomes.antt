@@ -6,9 +6,8 @@ use Rattle.pg_literal.specs.Rows.{StandsAt}
 use Rattle.pg_literal.specs.declared.row_outcome.RowOutcome.{RowOutcome}
 use Rattle.pg_literal.specs.declared.row_outcome.RowOutcome.TheVariants.{Found, NotFound, GaveUp}
 
--- the first place of some bytes from one on at which the row stands, if there is one and the search wasn't given up
-abbrev pub FindsRow : List ℕ → List Bytes → ℕ → RowOutcome → Type 0
-FindsRow bytes row from (Found place) =
-    NoneBefore (StandsAt bytes row) from (length bytes) place × StandsAt bytes row place
-FindsRow bytes row from NotFound = Nowhere (StandsAt bytes row) from (length bytes)
-FindsRow bytes row from GaveUp = Unit {0}
+-- the first place of some bytes at which the row stands, if there is one and the search wasn't given up
+abbrev pub FindsRow : List ℕ → List Bytes → RowOutcome → Type 0
+FindsRow bytes row (Found place) = NoneBefore (StandsAt bytes row) 0 (length bytes) place × StandsAt bytes row place
+FindsRow bytes row NotFound = Nowhere (StandsAt bytes row) 0 (length bytes)
+FindsRow bytes row GaveUp = Unit {0}

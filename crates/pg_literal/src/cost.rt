@@ -28,13 +28,14 @@ const IN_VAIN: usize = 200_000;
 const SELECTED: usize = 50_000;
 
 /// How rare the rarest bytes are.
-pub(crate) const RAREST: usize = 9;
+pub(crate) const RAREST: usize = 10;
 
 /// How rare a byte is: how often one is halved for the part of all bytes that are this one, about as in prose and in
 /// programs. Punctuation counts as rare: where it is, a search for it alone is by far the fastest, and where it isn't,
-/// texts with it hardly spare the automaton a line.
+/// texts with it hardly spare the automaton a line. What stands in prose, names and lists counts as less rare than what
+/// doesn't.
 pub(crate) fn rarity_of(byte: u8) -> usize
-    ensures { result ≤ 9 }
+    ensures { result ≤ 10 }
 {
     match byte {
         b' ' => 3,
@@ -43,6 +44,7 @@ pub(crate) fn rarity_of(byte: u8) -> usize
         b'f' | b'g' | b'p' | b'w' | b'y' | b'b' | u8::MAX => 6,
         b'v' | b'k' | b'\t' | b'0'..=b'9' => 7,
         b'A'..=b'Z' => 8,
+        b'.' | b',' | b'-' | b'_' | b'/' | b':' | b'"' | b'\'' | b'(' | b')' | b'=' | b';' => 9,
         _ => RAREST,
     }
 }
@@ -76,8 +78,8 @@ const CERTAIN: usize = 1 << 32;
 /// a block is soon given up; where they don't, it takes a tenth of the time.
 const OFTEN: usize = CERTAIN / 8;
 
-/// What it costs to pass a byte in the search for two sets of a row, in picoseconds.
-const SETS: usize = 250;
+/// What it costs to pass a byte in the search by a pair of ranges, in picoseconds.
+const PAIR: usize = 125;
 
 /// What it costs to compare a row where bytes of these sets stand.
 const COMPARING: usize = 8_000;
@@ -104,7 +106,7 @@ fn chance_in(set: &ByteSet) -> usize {
 }
 
 /// The chance of a byte to be in ranges that cover a set.
-fn chance_covered(cover: Cover) -> usize {
+pub(crate) fn chance_covered(cover: Cover) -> usize {
     let mut chance: usize = 0;
     for byte in 0..=u8::MAX {
         if cover.contains(byte) {
@@ -149,7 +151,8 @@ pub(crate) fn sets_cost(near: CoveredSet, far: CoveredSet) -> usize {
     if both > OFTEN {
         NO_TEXT
     } else {
-        SETS.saturating_add(COMPARING.saturating_mul(both >> 16) >> 16)
+        let passing = PAIR.saturating_mul(near.cover.pairs() + far.cover.pairs());
+        passing.saturating_add(COMPARING.saturating_mul(both >> 16) >> 16)
     }
 }
 

@@ -1,9 +1,11 @@
 //! The places of a row by which it is looked for.
-ghost use Rattle.std.specs.Prelude.{◌≡◌, ◌<◌, length, IfSome};
+ghost use Rattle.std.specs.Prelude.{◌≡◌, ◌<◌, ℕ, true, length, IfSome};
+ghost use Rattle.pg_bytes.specs.ByteSets.{bytes};
 ghost use Rattle.pg_literal.specs.CoveredSets.{IsCoveredSet, IsOnlyByte};
+ghost use Rattle.pg_literal.specs.Ranges.{covered};
 ghost use Rattle.pg_literal.specs.Rows.{row_along};
 
-use crate::cost::chance_of;
+use crate::cost::{chance_covered, chance_of};
 use crate::ranges::Cover;
 use crate::row::only_byte;
 use pg_bytes::ByteSet;
@@ -22,6 +24,19 @@ pub(crate) struct OnlyByte {
     pub byte: u8,
 }
 
+/// Ranges that have the bytes of a set: four, where two have other bytes that are to be expected twice as often.
+fn cover_of(set: &ByteSet) -> Cover
+    ensures { (b : ℕ) → b < 256 → bytes set.now b ≡ true → covered result b ≡ true }
+{
+    let two = Cover::by_two(set);
+    let four = Cover::by_four(set);
+    if chance_covered(four) < chance_covered(two) / 2 {
+        four
+    } else {
+        two
+    }
+}
+
 /// The set at a place of a row, which has it, covered.
 pub(crate) fn covered_at(sets: &[ByteSet], offset: usize) -> CoveredSet
     requires { offset < length sets.now }
@@ -30,7 +45,7 @@ pub(crate) fn covered_at(sets: &[ByteSet], offset: usize) -> CoveredSet
 {
     CoveredSet {
         offset,
-        cover: Cover::of(&sets[offset]),
+        cover: cover_of(&sets[offset]),
     }
 }
 

@@ -1,8 +1,8 @@
 //! Ranges of bytes that cover a set, and which of many bytes are in them.
-ghost use Rattle.std.specs.Prelude.{◌≡◌, ◌+◌, ◌-◌, ◌%◌, ◌<◌, ◌≤◌, ℕ, true, length, map, slice_range};
-ghost use Rattle.std.specs.Prelude.{slice_index};
+ghost use Rattle.std.specs.Prelude.{◌≡◌, ◌+◌, ◌-◌, ◌%◌, ◌<◌, ◌≤◌, ℕ, true, length, map};
+ghost use Rattle.std.specs.Prelude.{slice_index, get_or, ◌||◌};
 ghost use Rattle.pg_bytes.specs.ByteSets.{bytes};
-ghost use Rattle.pg_literal.specs.Ranges.{covered, in_range, mark};
+ghost use Rattle.pg_literal.specs.Ranges.{covered, in_pair, in_range, mark};
 
 use pg_bytes::ByteSet;
 use std::simd::prelude::*;
@@ -18,68 +18,81 @@ pub(crate) struct ByteRange {
     span: u8,
 }
 
-/// Two ranges which together have each byte of a set.
+/// Two ranges.
 #[derive(Clone, Copy)]
-pub(crate) struct Cover {
+pub(crate) struct RangePair {
     first: ByteRange,
     second: ByteRange,
 }
 
-/// The bytes between two neighbors in a set.
+/// Ranges which together have each byte of a set.
 #[derive(Clone, Copy)]
-struct Gap {
-    /// How many there are.
-    size: u16,
-    /// The set's byte behind them.
-    end: u8,
+pub(crate) enum Cover {
+    Two(RangePair),
+    Four(RangePair, RangePair),
 }
 
-/// The two longest gaps of a set, the longest first; behind 255 comes 0.
-fn longest_gaps(set: &ByteSet) -> (Gap, Gap) {
-    let mut first = Gap { size: 0, end: 0 };
-    let mut second = first;
-    let mut size: u16 = 0;
-    for k in 0..512u16 {
-        let byte = (k % 256) as u8;
-        if !set.contains(byte) {
-            size = size.saturating_add(1);
-        } else {
-            let gap = Gap { size, end: byte };
-            if gap.size > first.size {
-                second = first;
-                first = gap;
-            } else if gap.size > second.size && gap.end != first.end {
-                second = gap;
-            }
-            size = 0;
+/// How many bytes stand before one of a set and aren't in it; before 0 comes 255.
+fn gap_before(set: &ByteSet, byte: u8) -> u8 {
+    let mut size: u8 = 0;
+    while size < u8::MAX && !set.contains(byte.wrapping_sub(size).wrapping_sub(1)) {
+        size += 1;
+    }
+    size
+}
+
+/// The first byte of a set, at or behind one, with a gap of so many bytes before it; 256 where there is none.
+fn next_cut(set: &ByteSet, from: u16, gap: u8) -> u16
+    requires { from ≤ 256 }
+    ensures onward { from ≤ result }
+    ensures within { result ≤ 256 }
+{
+    for byte in from..256 {
+        if set.contains(byte as u8) && gap_before(set, byte as u8) >= gap {
+            return byte;
         }
     }
-    (first, second)
+    256
 }
 
-/// The least range with each byte of a set among so many from a start on, at most 256.
-fn range_among(set: &ByteSet, start: u8, count: u16) -> ByteRange
-    requires { count ≤ 256 }
-    ensures { (k : ℕ) → k < count → bytes set.now ((start + k) % 256) ≡ true
-        → in_range result ((start + k) % 256) ≡ true }
+/// Whether a set has more than so many gaps of so many bytes or more.
+fn has_more_gaps(set: &ByteSet, most: usize, gap: u8) -> bool {
+    let mut count: usize = 0;
+    for byte in 0..=u8::MAX {
+        if set.contains(byte) && gap_before(set, byte) >= gap {
+            count = count.saturating_add(1);
+        }
+    }
+    count > most
+}
+
+/// The least size of which a set has but so many gaps.
+fn size_of_gaps(set: &ByteSet, most: usize) -> u8 {
+    let mut gap: u8 = 1;
+    while gap < u8::MAX && has_more_gaps(set, most, gap) {
+        gap += 1;
+    }
+    gap
+}
+
+/// The least range with each byte of a set from one on up to before another, at most 256; 256 is 0 again, and so on.
+fn range_between(set: &ByteSet, start: u16, stop: u16) -> ByteRange
+    requires ordered { start ≤ stop }
+    requires within { stop ≤ start + 256 }
+    requires twice { stop ≤ 512 }
+    ensures { (b : ℕ) → start ≤ b → b < stop → bytes set.now (b % 256) ≡ true → in_range result (b % 256) ≡ true }
 {
-    let mut first: u16 = 0;
-    while first < count && !set.contains(start.wrapping_add(first as u8)) {
+    let mut first = start;
+    while first < stop && !set.contains((first % 256) as u8) {
         first += 1;
     }
-    if first == count {
-        return ByteRange {
-            low: start,
-            span: 0,
-        };
-    }
-    let mut stop = count;
-    while stop > first && !set.contains(start.wrapping_add((stop - 1) as u8)) {
-        stop -= 1;
+    let mut last = stop;
+    while last > first && !set.contains(((last - 1) % 256) as u8) {
+        last -= 1;
     }
     ByteRange {
-        low: start.wrapping_add(first as u8),
-        span: (stop - first).saturating_sub(1) as u8,
+        low: (first % 256) as u8,
+        span: (last - first).saturating_sub(1) as u8,
     }
 }
 
@@ -93,16 +106,71 @@ fn marks_in(range: ByteRange, lanes: u8x32) -> u8x32
         .select(u8x32::splat(1), u8x32::splat(0))
 }
 
+impl RangePair {
+    /// The least ranges with each byte of a set from `start` on, up to before `cut`, and from there on, up to before
+    /// `stop`; 256 is 0 again, and so on.
+    fn between(set: &ByteSet, start: u16, cut: u16, stop: u16) -> RangePair
+        requires ordered { (start ≤ cut) × (cut ≤ stop) }
+        requires within { stop ≤ start + 256 }
+        requires twice { stop ≤ 512 }
+        ensures { (b : ℕ) → start ≤ b → b < stop → bytes set.now (b % 256) ≡ true → in_pair result (b % 256) ≡ true }
+    {
+        RangePair {
+            first: range_between(set, start, cut),
+            second: range_between(set, cut, stop),
+        }
+    }
+
+    /// Whether a byte is in one of the ranges.
+    fn contains(self, byte: u8) -> bool
+        ensures { result ≡ in_pair self byte }
+    {
+        byte.wrapping_sub(self.first.low) <= self.first.span
+            || byte.wrapping_sub(self.second.low) <= self.second.span
+    }
+
+    /// For each of 32 bytes one where it is in one of the ranges, and zero elsewhere.
+    #[inline(always)]
+    fn marks(self, lanes: u8x32) -> u8x32
+        ensures { result ≡ map (λ b. mark (in_pair self b)) lanes }
+    {
+        marks_in(self.first, lanes) | marks_in(self.second, lanes)
+    }
+}
+
 impl Cover {
-    /// The ranges on both sides of the two longest gaps of a set.
-    pub fn of(set: &ByteSet) -> Cover
+    /// The ranges between the two longest gaps of a set.
+    pub fn by_two(set: &ByteSet) -> Cover
         ensures { (b : ℕ) → b < 256 → bytes set.now b ≡ true → covered result b ≡ true }
     {
-        let (first, second) = longest_gaps(set);
-        let count = u16::from(second.end.wrapping_sub(first.end));
-        Cover {
-            first: range_among(set, first.end, count),
-            second: range_among(set, second.end, 256 - count),
+        let gap = size_of_gaps(set, 2);
+        let first = next_cut(set, 0, gap);
+        let second = next_cut(set, (first + 1).min(256), gap);
+        Cover::Two(RangePair::between(set, first, second, first + 256))
+    }
+
+    /// The ranges between the four longest gaps of a set.
+    pub fn by_four(set: &ByteSet) -> Cover
+        ensures { (b : ℕ) → b < 256 → bytes set.now b ≡ true → covered result b ≡ true }
+    {
+        let gap = size_of_gaps(set, 4);
+        let first = next_cut(set, 0, gap);
+        let second = next_cut(set, (first + 1).min(256), gap);
+        let third = next_cut(set, (second + 1).min(256), gap);
+        let fourth = next_cut(set, (third + 1).min(256), gap);
+        Cover::Four(
+            RangePair::between(set, first, second, third),
+            RangePair::between(set, third, fourth, first + 256),
+        )
+    }
+
+    /// How many pairs of ranges there are.
+    pub fn pairs(self) -> usize
+        ensures { result ≤ 2 }
+    {
+        match self {
+            Cover::Two(_) => 1,
+            Cover::Four(_, _) => 2,
         }
     }
 
@@ -110,18 +178,35 @@ impl Cover {
     pub fn contains(self, byte: u8) -> bool
         ensures { result ≡ covered self byte }
     {
-        byte.wrapping_sub(self.first.low) <= self.first.span
-            || byte.wrapping_sub(self.second.low) <= self.second.span
+        match self {
+            Cover::Two(pair) => pair.contains(byte),
+            Cover::Four(pair, other) => pair.contains(byte) || other.contains(byte),
+        }
     }
 
-    /// For each of the 32 bytes from a place on, which are there, one where it is covered, and zero elsewhere.
+    /// The ranges as two pairs: twice the same where there is but one.
     #[inline(always)]
-    fn marks(self, bytes: &[u8], at: usize) -> u8x32
-        requires { at + 32 ≤ length bytes.now }
-        ensures { result ≡ map (λ b. mark (covered self b)) (slice_range bytes.now at (at + 32)) }
+    fn as_pairs(self) -> (RangePair, RangePair)
+        ensures { (b : ℕ) → (in_pair result.0 b || in_pair result.1 b) ≡ covered self b }
     {
-        let lanes = u8x32::from_slice(&bytes[at..]);
-        marks_in(self.first, lanes) | marks_in(self.second, lanes)
+        match self {
+            Cover::Two(pair) => (pair, pair),
+            Cover::Four(pair, other) => (pair, other),
+        }
+    }
+}
+
+/// How many of 32 lanes come before the first that is one in both; 32 where there is none.
+#[inline(always)]
+fn lanes_before_both(near: u8x32, far: u8x32) -> usize
+    ensures few { result ≤ 32 }
+    ensures none { (k : ℕ) → k < result → get_or near k 0 ≡ 1 → get_or far k 0 ≡ 1 → ⊥ }
+{
+    let found = (near & far).simd_eq(u8x32::splat(1)).to_bitmask();
+    if found == 0 {
+        LANES
+    } else {
+        found.trailing_zeros() as usize
     }
 }
 
@@ -140,11 +225,21 @@ pub(crate) fn uncovered_places(
     ensures none { (k : ℕ) → k < result → covered near (slice_index bytes.now (at + k)) ≡ true
         → covered far (slice_index bytes.now (at + distance + k)) ≡ true → ⊥ }
 {
-    let marks = near.marks(bytes, at) & far.marks(bytes, at + distance);
-    let found = marks.simd_eq(u8x32::splat(1)).to_bitmask();
-    if found == 0 {
-        LANES
-    } else {
-        found.trailing_zeros() as usize
+    let first = u8x32::from_slice(&bytes[at..]);
+    let second = u8x32::from_slice(&bytes[at + distance..]);
+    // Each arm ends with a number: lanes that two arms have in common are taken apart byte by byte.
+    match (near, far) {
+        (Cover::Two(near), Cover::Two(far)) => lanes_before_both(
+            near.marks(first),
+            far.marks(second),
+        ),
+        _ => {
+            let (near, more_near) = near.as_pairs();
+            let (far, more_far) = far.as_pairs();
+            lanes_before_both(
+                near.marks(first) | more_near.marks(first),
+                far.marks(second) | more_far.marks(second),
+            )
+        }
     }
 }

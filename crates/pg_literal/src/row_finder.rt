@@ -284,13 +284,12 @@ impl<A: Allocator> RowFinder<A> {
         None
     }
 
-    /// The first place at or behind one of some bytes, or their end, at which the row stands. The search is given up
-    /// where its rarest bytes stand so close together, and in vain, that the automaton would be faster.
-    pub fn find(&self, bytes: &[u8], from: usize) -> RowOutcome
-        requires { from ≤ length bytes.now }
-        ensures { FindsRow bytes.now (row_along self.now.sets.items) from result }
+    /// The first place of some bytes at which the row stands. The search is given up where its rarest bytes stand so
+    /// close together, and in vain, that the automaton would be faster.
+    pub fn find(&self, bytes: &[u8]) -> RowOutcome
+        ensures { FindsRow bytes.now (row_along self.now.sets.items) result }
     {
-        let mut at = from;
+        let mut at = 0;
         let mut tries = 0;
         while bytes.len() - at >= LANES + self.sets.len() {
             let skip = self.next_candidate(bytes, at);
@@ -301,7 +300,7 @@ impl<A: Allocator> RowFinder<A> {
                 }
                 at += 1;
                 tries += 1;
-                if tries > TRIES + (at - from) / FAR {
+                if tries > TRIES + at / FAR {
                     return RowOutcome::GaveUp;
                 }
             }

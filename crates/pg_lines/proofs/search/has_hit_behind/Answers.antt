@@ -1,4 +1,4 @@
-use Rattle.std.proofs.Common.{List, ℕ, ◌-◌, ◌∙◌, ◌↔◌, IsTrue, refl, subst}
+use Rattle.std.proofs.Common.{List, ℕ, ◌∙◌, ◌↔◌, IsTrue, refl, subst}
 use Rattle.std.proofs.lemmas.List.{take_rest}
 use Rattle.std.specs.Bool.{one_answer}
 use Rattle.pg_pattern.specs.Hits.{HasHit}

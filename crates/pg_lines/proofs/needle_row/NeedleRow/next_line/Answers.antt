@@ -1,8 +1,10 @@
-use Rattle.std.proofs.Common.{◌-◌, ◌+◌, length, take, drop, ap, subst, arith, length-drop}
+use Rattle.std.proofs.Common.{◌≡◌, ◌-◌, ◌+◌, drop, sym, subst, arith, length-drop}
 use Rattle.std.proofs.lemmas.List.{take_rest}
+use Rattle.pg_literal.specs.RowOutcomes.{FindsRow}
+use Rattle.pg_literal.specs.declared.row_outcome.RowOutcome.TheVariants.{Found}
 use Rattle.pg_selection.specs.Search.{terminator_of}
 use Rattle.pg_lines.specs.Literals.{finder_row}
-use Rattle.pg_lines.specs.Candidates.{AreWithoutRow, IsFirstWithRow}
+use Rattle.pg_lines.specs.Candidates.{AreWithoutRow, IsLineAround}
 use Rattle.pg_lines.proofs.NeedleRowLemmas.{first_row, nowhere_row}
 use Rattle.pg_lines.proofs.needle_row.NeedleRow.next_line.Goals as goal
 
@@ -12,21 +14,15 @@ returns-clause-next g c =
     let bytes = c.args.bytes.now in
     let at = c.args.at in
     let finder = c.args.self.now.finder.now in
-    let rest = take (length bytes - at) (drop at bytes) in
-    let whole = take_rest bytes at in
-    let first = c.in-Found.ensures in
-    let begin = c.begin_of_line.ensures in
-    let h = first_row text finder c.requires.row c.terminator-end.result rest at c.begin_of_line.result
-    c.in-Found.place c.end_of_line.result c.terminator-end.ensures first.0.before first.0.high first.1 begin.low
-    begin.clear begin.whole c.end_of_line.ensures.stops in (
-      omega arith,
-      omega (arith, h.1),
-      omega (arith, h.2, ap length whole, length-drop at bytes, c.requires.at),
-      subst (λ xs. IsFirstWithRow (terminator_of text) finder at xs (record {
-        line = record { start = at + c.begin_of_line.result; end = at + c.end_of_line.result };
-        is_enough = finder.is_enough;
-      })) whole h.0,
-    )
+    let k = c.in-Found.found in
+    let found = c.around-found.result in
+    let same : at + k - at ≡ k = omega arith in
+    let first = subst (λ xs. FindsRow xs (finder_row finder) (Found k)) (take_rest bytes at) c.in-Found.ensures in
+    let line = subst (λ n. IsLineAround (terminator_of text) at (drop at bytes) n found.line) same
+    c.around-found.ensures.line in
+    let row = first_row text finder c.requires.row at (drop at bytes) k found first.0.before first.0.high first.1
+    (sym c.around-found.ensures.flag) line in
+    (omega (arith, line.starts), row.1, omega (arith, row.2, length-drop at bytes, c.requires.at), row.0)
 
 pub returns-in-NotFound-clause-next : goal.returns-in-NotFound-clause-next
 returns-in-NotFound-clause-next g c =

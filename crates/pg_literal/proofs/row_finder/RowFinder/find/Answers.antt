@@ -9,7 +9,7 @@ returns-then-stands_at g c = (
   record {
     low = omega (arith, c.loop-at.invariant.behind);
     high = c.next_candidate-skip.ensures.candidate c.if-skip.true;
-    before = nowhere_more c.args.bytes.now (row_along c.args.self.now.sets.items) c.args.from c.loop-at.at
+    before = nowhere_more c.args.bytes.now (row_along c.args.self.now.sets.items) 0 c.loop-at.at
         c.next_candidate-skip.result.places c.loop-at.invariant.nowhere c.next_candidate-skip.ensures.none;
   },
   c.if-stands_at.ensures.0 refl,
@@ -20,7 +20,7 @@ loop-at-preserved-else-tries-at g c =
     let row = row_along c.args.self.now.sets.items in
     let bytes = c.args.bytes.now in
     let next = c.loop-at.at + c.next_candidate-skip.result.places in
-    let before = nowhere_more bytes row c.args.from c.loop-at.at
+    let before = nowhere_more bytes row 0 c.loop-at.at
     c.next_candidate-skip.result.places c.loop-at.invariant.nowhere c.next_candidate-skip.ensures.none in
     record {
       behind = omega (arith, c.loop-at.invariant.behind);
@@ -37,6 +37,6 @@ pub loop-at-preserved : goal.loop-at-preserved
 loop-at-preserved g c = record {
   behind = omega (arith, c.loop-at.invariant.behind);
   within = c.next_candidate-skip.ensures.within;
-  nowhere = nowhere_more c.args.bytes.now (row_along c.args.self.now.sets.items) c.args.from c.loop-at.at
+  nowhere = nowhere_more c.args.bytes.now (row_along c.args.self.now.sets.items) 0 c.loop-at.at
       c.next_candidate-skip.result.places c.loop-at.invariant.nowhere c.next_candidate-skip.ensures.none;
 }
