@@ -10,7 +10,7 @@ use Rattle.pg_selection.specs.Search.{SearchText, Search, Pattern, search_of, un
 use Rattle.pg_selection.specs.Selection.{selects, has_hit, parts}
 use Rattle.pg_selection.specs.Runs.{AllLines, IsNextRun, AreRuns}
 use Rattle.pg_selection.specs.BlockParts.{part_at, parts_of_lines}
-use Rattle.pg_lines.specs.Gathered.{IsNextLine}
+use Rattle.pg_prefilter.specs.NextHits.{IsNextLine}
 use Rattle.pg_selection.specs.declared.run.Run.{Run}
 use Rattle.pg_blocks.specs.declared.span.Span.{Span}
 use Rattle.pg_lines.proofs.GatherLemmas.{closed_run, gap_front, is_empty}

@@ -14,8 +14,8 @@ use Rattle.pg_selection.specs.Search.{SearchText, Search, terminator}
 use Rattle.pg_selection.specs.Selection.{selects, has_hit}
 use Rattle.pg_selection.specs.declared.run.Run.{Run}
 use Rattle.pg_lines.specs.Finding.{HitsEachLine}
-use Rattle.pg_lines.specs.Literals.{AreLiterals, data_of}
-use Rattle.pg_lines.proofs.HitLemmas.{held_hit}
+use Rattle.pg_prefilter.specs.Literals.{AreLiterals, data_of}
+use Rattle.pg_prefilter.proofs.HitLemmas.{held_hit}
 
 -- a literal that is enough and has no byte
 abbrev pub IsEmptyEnough : {A : Type 0} → Literal A → Type 0

@@ -1,17 +1,20 @@
 -- The runs that are gathered in a block, line by line.
-use Rattle.std.proofs.Common.{◌≡◌, ℕ, ◌+◌, ◌-◌, ◌<◌, ◌≤◌, ◌⊎◌, inl, inr, Bool, true, false, nat_lt}
+use Rattle.std.proofs.Common.{◌≡◌, ℕ, ◌+◌, ◌-◌, ◌<◌, ◌≤◌, ◌^◌, ◌⊎◌, inl, inr, Bool, true, false, nat_lt}
 use Rattle.std.proofs.Common.{cond, List, [], ◌∷◌, ◌++◌, length, take, drop, slice_range, refl, sym, ap, ◌∙◌, subst}
 use Rattle.std.proofs.Common.{arith, append_assoc, length-append}
+use Rattle.std.specs.List.{AllByRecursion}
 use Rattle.std.proofs.lemmas.Bool.{ltb-true, ltb-false}
-use Rattle.std.proofs.lemmas.List.{drop_at, take_at, append-nil}
-use Rattle.pg_blocks.specs.Lines.{lines, AreWhole}
+use Rattle.std.proofs.lemmas.List.{drop-drop, drop_at, take_at, append-nil}
+use Rattle.pg_blocks.specs.Lines.{lines, AreWhole, AreShort}
 use Rattle.pg_selection.specs.Search.{Search, terminator}
 use Rattle.pg_selection.specs.Runs.{AllLines, IsNextRun, AreRuns}
-use Rattle.pg_lines.specs.Gathered.{IsNextLine, IsGathered}
+use Rattle.pg_prefilter.specs.NextHits.{IsNextLine}
+use Rattle.pg_lines.specs.Gathered.{IsGathered}
 use Rattle.pg_selection.specs.declared.run.Run.{Run}
 use Rattle.pg_blocks.specs.declared.span.Span.{Span}
+use Rattle.pg_selection.proofs.RunLemmas.{lines_apart}
 use Rattle.pg_blocks.proofs.LineLemmas.{lines-append, whole_append}
-use Rattle.pg_lines.proofs.RunLemmas.{all_lines-append}
+use Rattle.pg_prefilter.proofs.LineLemmas.{all_back, all_lines-append}
 
 -- before the first line
 pub gathered_none : (q : Search) (bytes : List ℕ) (run : Run) → run.span.start ≡ 0 → run.span.end ≡ 0
@@ -289,3 +292,20 @@ module _ (q : Search) (bytes : List ℕ) (runs : List Run) (run : Run) (g : IsGa
           count = omega (arith, count, g.count, longer, length-append (lines E g.text) (lines E text), found.1.count);
           known = subst R regrouped (subst Q (sym first) (subst P (sym start) g.known));
         }
+
+-- the lines behind a run aren't too long where no line is
+pub short_behind : (q : Search) (bytes : List ℕ) (at seen : ℕ) (run : Run) → IsNextRun q at seen (drop at bytes) run
+    → AreShort (terminator q) (drop at bytes) → AreShort (terminator q) (drop run.span.end bytes)
+short_behind q bytes at seen run n short =
+    let Short : List ℕ → Type 0 = λ l. length l ≤ 2 ^ 30 in
+    let P : List (List ℕ) → Type 0 = λ ls. AllByRecursion Short ls in
+    let E = terminator q in
+    let all = subst P (lines_apart q at seen (drop at bytes) run n) short in
+    let later = all_back Short (lines E n.text) (lines E n.later) (all_back Short (lines E n.gap) _ all) in
+    let front = n.gap ++ n.text in
+    let stop : run.span.end ≡ at + length front = omega (arith, n.stop, length-append n.gap n.text) in
+    let behind : drop run.span.end bytes ≡ n.later =
+    ap (λ m. drop m bytes) stop
+    ∙ (sym (drop-drop (length front) at bytes)
+    ∙ (ap (drop (length front)) n.joins ∙ drop_at front n.later (length front) refl)) in
+    subst P (sym (ap (lines E) behind)) later

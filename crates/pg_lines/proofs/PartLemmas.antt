@@ -20,7 +20,8 @@ use Rattle.pg_lines.specs.Queries.{Compiled, IsCompiled}
 use Rattle.pg_selection.proofs.TreeLemmas.{same_trees}
 use Rattle.pg_selection.specs.Runs.{AllLines}
 use Rattle.pg_selection.specs.BlockParts.{part_at, parts_of_lines}
-use Rattle.pg_lines.specs.Gathered.{IsNextLine, IsGathered}
+use Rattle.pg_prefilter.specs.NextHits.{IsNextLine}
+use Rattle.pg_lines.specs.Gathered.{IsGathered}
 use Rattle.pg_selection.specs.declared.run.Run.{Run}
 use Rattle.pg_selection.specs.declared.run.Part.{Part}
 use Rattle.pg_blocks.specs.declared.span.Span.{Span}
@@ -28,7 +29,7 @@ use Rattle.pg_blocks.proofs.LineLemmas.{lines-append, whole_append, terminated-l
 use Rattle.pg_lines.proofs.GatherLemmas.{passed, behind, before, passed_whole, passed_count, front_is_whole, joined}
 use Rattle.pg_lines.proofs.GatherLemmas.{line_text, front_length}
 use Rattle.pg_selection.proofs.RunLemmas.{lines_apart}
-use Rattle.pg_lines.proofs.RunLemmas.{all_back}
+use Rattle.pg_prefilter.proofs.LineLemmas.{all_back}
 
 -- the parts of the lines before a place, where they are asked for
 abbrev pub parts_before : Search → List ℕ → ℕ → List Part

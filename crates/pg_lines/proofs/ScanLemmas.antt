@@ -9,8 +9,8 @@ use Rattle.pg_blocks.specs.Lines.{lines, AreWhole, AreShort}
 use Rattle.pg_blocks.proofs.LineLemmas.{lines-alone, lines-line}
 use Rattle.pg_match.specs.Lines.{IsFirstText, IsTextAt, TellsLine}
 use Rattle.pg_match.specs.declared.dfa_line.KnownLine.{KnownLine}
-use Rattle.pg_lines.specs.Candidates.{IsLineAt}
-use Rattle.pg_lines.proofs.RunLemmas.{IsPassed, is_line, line_at}
+use Rattle.pg_prefilter.specs.Candidates.{IsLineAt}
+use Rattle.pg_prefilter.proofs.LineLemmas.{IsPassed, is_line, line_at}
 
 -- the next line starts behind the terminator, or there is none
 abbrev pub GoesOn : List ℕ → ℕ → ℕ → Type 0

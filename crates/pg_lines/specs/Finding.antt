@@ -1,17 +1,14 @@
 -- What a search for lines with a hit needs, and what it finds.
-use Rattle.std.specs.Prelude.{◌≡◌, ℕ, ◌<◌, ◌≤◌, true, false, List, length, drop}
+use Rattle.std.specs.Prelude.{◌≡◌, ℕ, ◌≤◌, true, List, length, drop}
 use Rattle.pg_match.specs.Machines.{Fits, Room}
 use Rattle.pg_blocks.specs.Lines.{AreShort}
-use Rattle.pg_blocks.specs.declared.span.Span.{Span}
-use Rattle.pg_selection.specs.Search.{SearchText, Pattern, AreTreesOf, search_of, uninverted, terminator_of}
+use Rattle.pg_selection.specs.Search.{SearchText, Pattern, AreTreesOf, search_of, terminator_of}
 use Rattle.pg_selection.specs.Selection.{has_hit}
-use Rattle.pg_selection.specs.Runs.{AllLines}
 use Rattle.pg_lines.specs.Queries.{Compiled}
-use Rattle.pg_lines.specs.Strings.{AreBlockStrings}
-use Rattle.pg_lines.specs.Candidates.{AreNeedles}
-use Rattle.pg_lines.specs.Gathered.{IsNextLine}
-use Rattle.pg_lines.specs.declared.strings.BlockStrings.{BlockStrings}
-use Rattle.pg_lines.specs.declared.needles.Needles.{Needles}
+use Rattle.pg_prefilter.specs.Strings.{AreBlockStrings}
+use Rattle.pg_prefilter.specs.Candidates.{AreNeedles}
+use Rattle.pg_prefilter.specs.declared.strings.BlockStrings.{BlockStrings}
+use Rattle.pg_prefilter.specs.declared.needles.Needles.{Needles}
 
 -- A block's bytes can be searched from a place on: strings and needles are the query's, the scratch is for its
 -- automaton, and no line is too long.
@@ -22,17 +19,6 @@ pub record CanSearch {A B : Type 0} (query : Compiled) (bytes : List ℕ) (sets 
   pub needles : AreNeedles query.text bytes at sought
   pub fits : Fits scratch query.machine
   pub short : AreShort (terminator_of query.text) (drop at bytes)
-
--- the first line with a hit at or behind a place where a line starts, with its terminator
-pub record IsNextHit (text : SearchText) (bytes : List ℕ) (at : ℕ) (line : Span) : Type 0 where
-  pub within : (at ≤ line.start) × (line.start < line.end) × (line.end ≤ length bytes)
-  pub first : (trees : List Pattern) → AreTreesOf text trees
-      → IsNextLine (search_of (uninverted text) trees) at (drop at bytes) line
-
--- no line there has one
-abbrev pub HasNoNextHit : SearchText → List ℕ → ℕ → Type 0
-HasNoNextHit text bytes at = (trees : List Pattern) → AreTreesOf text trees
-    → AllLines (search_of (uninverted text) trees) false (drop at bytes)
 
 -- each line has a hit
 abbrev pub HitsEachLine : SearchText → Type 0

@@ -1,14 +1,9 @@
 -- What a search has found in a block so far.
-use Rattle.std.specs.Prelude.{◌≡◌, ℕ, ◌+◌, ◌⊎◌, true, List, [], ◌++◌, length}
+use Rattle.std.specs.Prelude.{◌≡◌, ◌+◌, ◌⊎◌, ℕ, true, List, [], ◌++◌, length}
 use Rattle.pg_blocks.specs.Lines.{lines, AreWhole}
 use Rattle.pg_selection.specs.Search.{Search, terminator}
-use Rattle.pg_selection.specs.Runs.{AllLines, IsNextRun, AreRuns}
+use Rattle.pg_selection.specs.Runs.{AllLines, AreRuns}
 use Rattle.pg_selection.specs.declared.run.Run.{Run}
-use Rattle.pg_blocks.specs.declared.span.Span.{Span}
-
--- the first selected line in bytes that stand from a place on: a run of one line
-abbrev pub IsNextLine : Search → ℕ → List ℕ → Span → Type 0
-IsNextLine q at bytes line = (first : ℕ) × IsNextRun q at 0 bytes (record { span = line; first = first; count = 1 })
 
 -- The runs so far and an open one behind them: whatever runs follow the open one's start, together they are all runs.
 pub record IsGathered (q : Search) (bytes : List ℕ) (runs : List Run) (run : Run) : Type 0 where

@@ -2,7 +2,7 @@
 ghost use Rattle.std.specs.Prelude.{◌≡◌, map, IfOk, IsTrue, false};
 ghost use Rattle.pg_selection.specs.Searched.{IsFound};
 ghost use Rattle.pg_lines.specs.Finding.{HitsEachLine};
-ghost use Rattle.pg_lines.specs.Literals.{AreLiterals, data_of};
+ghost use Rattle.pg_prefilter.specs.Literals.{AreLiterals, data_of};
 
 use crate::query::Query;
 use crate::runs::{push_run, run_between};

@@ -7,14 +7,30 @@ ghost use Rattle.pg_blocks.specs.Lines.{lines};
 ghost use Rattle.pg_selection.specs.Search.{Pattern, AreTreesOf, bounds_of, search_of, terminator_of};
 ghost use Rattle.pg_selection.specs.Selection.{selects, parts};
 ghost use Rattle.pg_selection.specs.BlockParts.{part_at};
-ghost use Rattle.pg_lines.specs.Strings.{AreBlockStrings, JudgesLine};
+ghost use Rattle.pg_prefilter.specs.Strings.{AreBlockStrings, FindsPart, JudgesLine};
 
 use crate::query::Query;
-use crate::strings::{BlockStrings, NextString};
 use pg_blocks::{Span, text_of};
 use pg_match::Scratch;
+use pg_prefilter::{BlockStrings, NextString};
 use pg_selection::Part;
 use std::alloc::{AllocError, Allocator};
+
+/// Of a line that stands at a place in its block the next match from a place of the line on, as far as strings tell.
+pub(crate) fn next_by_strings<A: Allocator>(
+    query: &Query<A>,
+    strings: &BlockStrings<'_, A>,
+    line: &[u8],
+    at: usize,
+    from: usize,
+) -> NextString
+    requires line { JudgesLine query.now.text strings.now line.now at }
+    requires from { from ≤ length line.now }
+    ensures { (trees : List Pattern) → AreTreesOf query.now.text trees
+        → FindsPart trees (bounds_of query.now.text) line.now from result }
+{
+    strings.next_part(query.text(), line, at, from)
+}
 
 /// The next matched part of a line that stands at a place in its block: by the query's strings, where it has such, else
 /// by its automaton, from where a match may begin.
@@ -37,7 +53,7 @@ fn next_part<A: Allocator>(
         (λ part. IsNext trees (bounds_of query.now.text) line.now from part.0 part.1) }
 {
     let machine = query.machine();
-    match strings.next_part(query, line, at, from) {
+    match next_by_strings(query, strings, line, at, from) {
         NextString::Found(part) => Some((part.start, part.end)),
         NextString::Nowhere => None,
         NextString::Behind(place) => machine.next_part(scratch, line, place),

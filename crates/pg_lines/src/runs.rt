@@ -3,7 +3,8 @@ ghost use Rattle.std.specs.Prelude.{◌≡◌, ◌+◌, ◌<◌, ◌≤◌, ◌+
 ghost use Rattle.std.specs.Prelude.{if◌then◌else◌};
 ghost use Rattle.pg_blocks.specs.Lines.{lines};
 ghost use Rattle.pg_selection.specs.Search.{Search, terminator};
-ghost use Rattle.pg_lines.specs.Gathered.{IsNextLine, IsGathered};
+ghost use Rattle.pg_prefilter.specs.NextHits.{IsNextLine};
+ghost use Rattle.pg_lines.specs.Gathered.{IsGathered};
 
 use pg_blocks::{Span, count_lines};
 use pg_selection::Run;

@@ -10,24 +10,24 @@ ghost use Rattle.pg_selection.specs.Search.{Pattern, AreTreesOf, bounds_of, sear
 ghost use Rattle.pg_selection.specs.Selection.{has_hit};
 ghost use Rattle.pg_selection.specs.Searched.{IsFound};
 ghost use Rattle.pg_lines.specs.Queries.{IsCompiled};
-ghost use Rattle.pg_lines.specs.Literals.{AreLiterals, TellHeads, data_of};
-ghost use Rattle.pg_lines.specs.Strings.{AreBlockStrings, FindsPart, IsSetOf, JudgesLine};
-ghost use Rattle.pg_lines.specs.declared.strings.NextString.TheVariants.{Behind};
-ghost use Rattle.pg_lines.specs.Candidates.{AreNeedles, AreSome};
-ghost use Rattle.pg_lines.specs.Finding.{CanSearch, HasNoNextHit, IsNextHit};
+ghost use Rattle.pg_prefilter.specs.Literals.{AreLiterals, TellHeads, data_of};
+ghost use Rattle.pg_prefilter.specs.Strings.{AreBlockStrings, FindsPart, IsSetOf, JudgesLine};
+ghost use Rattle.pg_prefilter.specs.declared.strings.NextString.TheVariants.{Behind};
+ghost use Rattle.pg_prefilter.specs.Candidates.{AreNeedles, AreSome, IsNextSought};
+ghost use Rattle.pg_prefilter.specs.NextHits.{HasNoNextHit, IsNextHit};
+ghost use Rattle.pg_lines.specs.Finding.{CanSearch};
 
-use crate::candidate::NextLine;
 use crate::every_line::{hits_each_line, runs_of_each_line};
-use crate::literal_set::{LiteralSet, fixed_strings};
-use crate::needles::{FAR, Needles};
-use crate::parts::push_line_parts;
+use crate::parts::{next_by_strings, push_line_parts};
 use crate::query::Query;
 use crate::runs::{push_run, run_between, with_line};
-use crate::strings::{BlockStrings, NextString, only_head};
 use memchr::memchr;
 use pg_blocks::{Block, Span, count_lines, line_end, text_of};
 use pg_literal::Literal;
 use pg_match::Scratch;
+use pg_prefilter::{
+    BlockStrings, FAR, LiteralSet, Needles, NextLine, NextString, fixed_strings, only_head,
+};
 use pg_selection::{BlockResult, Found, Run};
 use std::alloc::{AllocError, Allocator};
 use std::sync::Arc;
@@ -56,7 +56,7 @@ fn has_hit_behind<A: Allocator>(
         → result ≡ has_hit (search_of query.now.text trees) line.now }
 {
     let machine = query.machine();
-    if query.ignores_front() {
+    if query.prefilter().ignores_front() {
         machine.selects(scratch, &line[place..])
     } else {
         machine.next_part(scratch, line, place).is_some()
@@ -79,7 +79,7 @@ fn has_hit<A: Allocator>(
     ensures hit { (trees : List Pattern) → AreTreesOf query.now.text trees →
         result ≡ has_hit (search_of query.now.text trees) line.now }
 {
-    match strings.next_part(query, line, at, 0) {
+    match next_by_strings(query, strings, line, at, 0) {
         NextString::Found(_) => true,
         NextString::Nowhere => false,
         NextString::Behind(place) => has_hit_behind(query, scratch, line, place),
@@ -209,7 +209,28 @@ fn with_one_in_vain<'n, A: Allocator>(
     if more < PATIENCE {
         return more;
     }
-    if needles.give_up(query) { 0 } else { more }
+    if needles.give_up(query.prefilter().row()) {
+        0
+    } else {
+        more
+    }
+}
+
+/// The first line at or behind a place of a block, or its end, that holds one of the needles, which aren't given up.
+fn next_candidate<'n, A: Allocator>(
+    query: &Query<A>,
+    needles: &mut Needles<'n, A>,
+    bytes: &[u8],
+    at: usize,
+) -> NextLine
+    requires at { at ≤ length bytes.now }
+    requires needles { AreNeedles query.now.text bytes.now at needles.old }
+    requires some { AreSome needles.old }
+    ensures needles { AreNeedles query.now.text bytes.now at needles.new }
+    ensures some { AreSome needles.new }
+    ensures next { IsNextSought query.now.text needles.new at bytes.now result }
+{
+    needles.next_line(query.text(), bytes, at)
 }
 
 /// The first line with a hit at or behind a place where a line starts, with its terminator, where such lines hold a
@@ -235,7 +256,7 @@ fn next_confirmed<'n, A: Allocator>(
     let mut from = at;
     let mut in_vain = 0;
     while in_vain < PATIENCE {
-        let found = match needles.next_line(query, bytes, from) {
+        let found = match next_candidate(query, needles, bytes, from) {
             NextLine::Found(found) => found,
             NextLine::Nowhere => return None,
             NextLine::GaveUp => {
@@ -411,20 +432,22 @@ fn search_by<A: Allocator + Copy>(
     ensures fits { Fits scratch.new query.now.machine }
     ensures found { IfOk result (IsFound query.now.text bytes.now) }
 {
-    if !query.text().with_parts && hits_each_line(query, literals) {
+    let options = query.text();
+    if !options.with_parts && hits_each_line(query, literals) {
         return runs_of_each_line(alloc, query, bytes);
     }
+    let found = query.prefilter();
     let strings = BlockStrings::new(
         fixed_strings(set),
-        only_head(query, literals),
-        query.suffix(),
+        only_head(options, literals, found.ignores_front()),
+        found.suffix(),
         searched,
     );
     let mut needles = Needles::new(
         alloc,
         literals,
         sought_set(query, set),
-        query.first_row(),
+        found.first_row(),
         searched,
     )?;
     selected_runs(alloc, query, &strings, &mut needles, scratch, bytes)
@@ -442,8 +465,9 @@ fn search_bytes<A: Allocator + Copy>(
     ensures fits { Fits scratch.new query.now.machine }
     ensures found { IfOk result (IsFound query.now.text bytes.now) }
 {
-    let literals = query.literals();
-    let set = query.literal_set();
+    let found = query.prefilter();
+    let literals = found.literals();
+    let set = found.literal_set();
     if query.text().fold && (set.is_some() || !literals.is_empty()) {
         let lowered = bytes.to_ascii_lowercase(alloc)?;
         search_by(alloc, query, literals, set, scratch, bytes, &lowered)

@@ -1,6 +1,6 @@
 use Rattle.std.proofs.Common.{length}
 use Rattle.pg_selection.specs.Search.{bounds_of}
-use Rattle.pg_lines.proofs.HeadLemmas.{within_behind, piece_behind}
+use Rattle.pg_prefilter.proofs.HeadLemmas.{within_behind, piece_behind}
 use Rattle.pg_lines.proofs.PartLemmas.{machine_of, part_within}
 use Rattle.pg_lines.proofs.parts.next_part.Goals as goal
 
@@ -31,8 +31,8 @@ returns-in-GaveUp-clause-next g c = λ trees spelled.
     let is = machine_of q c.machine-machine.result.now c.machine-machine.ensures.machine own in
     c.next_part-in-GaveUp.ensures.next trees (bounds_of q.text) (is trees spelled)
 
-pub next_part-requires-in-Behind-clause-from_in : goal.next_part-requires-in-Behind-clause-from_in
-next_part-requires-in-Behind-clause-from_in g c =
+pub next_part-requires-clause-from_in : goal.next_part-requires-clause-from_in
+next_part-requires-clause-from_in g c =
     let own = c.machine-machine.ensures.compiled in
     (c.in-Behind.ensures own.0 own.1).1
 
@@ -42,9 +42,9 @@ returns-in-Behind-clause-within g c =
     let own = c.machine-machine.ensures.compiled in
     let is = machine_of q c.machine-machine.result.now c.machine-machine.ensures.machine own in
     let behind = c.in-Behind.ensures own.0 own.1 in
-    within_behind c.args.from c.in-Behind.place (length c.args.line.now) c.next_part-in-Behind.result behind.0
-    (part_within own.0 (bounds_of q.text) c.args.line.now c.in-Behind.place c.next_part-in-Behind.result
-    (c.next_part-in-Behind.ensures.next own.0 (bounds_of q.text) (is own.0 own.1)))
+    within_behind c.args.from c.in-Behind.place (length c.args.line.now) c.next_part.result behind.0
+    (part_within own.0 (bounds_of q.text) c.args.line.now c.in-Behind.place c.next_part.result
+    (c.next_part.ensures.next own.0 (bounds_of q.text) (is own.0 own.1)))
 
 pub returns-in-Behind-clause-next : goal.returns-in-Behind-clause-next
 returns-in-Behind-clause-next g c = λ trees spelled.
@@ -53,4 +53,4 @@ returns-in-Behind-clause-next g c = λ trees spelled.
     let is = machine_of q c.machine-machine.result.now c.machine-machine.ensures.machine own in
     let behind = c.in-Behind.ensures trees spelled in
     piece_behind trees (bounds_of q.text) c.args.line.now c.args.from c.in-Behind.place behind.2 behind.0
-    c.next_part-in-Behind.result (c.next_part-in-Behind.ensures.next trees (bounds_of q.text) (is trees spelled))
+    c.next_part.result (c.next_part.ensures.next trees (bounds_of q.text) (is trees spelled))

@@ -2,7 +2,7 @@ use Rattle.std.proofs.Common.{◌≡◌, ◌≤◌, ℕ, List, length, take, sub
 use Rattle.pg_selection.specs.Search.{SearchText, search_of}
 use Rattle.pg_selection.specs.Selection.{parts}
 use Rattle.pg_selection.specs.BlockParts.{part_at}
-use Rattle.pg_lines.proofs.JudgeLemmas.{judges_front}
+use Rattle.pg_prefilter.proofs.JudgeLemmas.{judges_front}
 use Rattle.pg_lines.proofs.PartLemmas.{kept_none, no_parts}
 use Rattle.pg_lines.proofs.parts.push_line_parts.Goals as goal
 use Rattle.pg_lines.proofs.parts.push_line_parts.Goals.{else-options-via-then-options+else-not-options}

@@ -3,7 +3,7 @@ use Rattle.std.specs.Bool.{one_answer}
 use Rattle.pg_pattern.specs.Tests.{has_hit}
 use Rattle.pg_pattern.proofs.TestLemmas.{hits_decided}
 use Rattle.pg_selection.specs.Search.{bounds_of}
-use Rattle.pg_lines.proofs.HitLemmas.{hit_found, hit_missed}
+use Rattle.pg_prefilter.proofs.HitLemmas.{hit_found, hit_missed}
 use Rattle.pg_lines.proofs.PartLemmas.{machine_of}
 use Rattle.pg_lines.proofs.search.has_hit.Goals as goal
 

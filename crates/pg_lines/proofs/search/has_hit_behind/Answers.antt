@@ -5,7 +5,7 @@ use Rattle.pg_pattern.specs.Hits.{HasHit}
 use Rattle.pg_pattern.specs.Tests.{has_hit}
 use Rattle.pg_pattern.proofs.TestLemmas.{hits_decided}
 use Rattle.pg_selection.specs.Search.{bounds_of}
-use Rattle.pg_lines.proofs.HeadLemmas.{piece_tells, rest_tells}
+use Rattle.pg_prefilter.proofs.HeadLemmas.{piece_tells, rest_tells}
 use Rattle.pg_lines.proofs.PartLemmas.{machine_of}
 use Rattle.pg_lines.proofs.search.has_hit_behind.Goals as goal
 
@@ -21,7 +21,7 @@ returns-then-ignores_front-clause-hit g c = λ trees spelled.
     (machine_of query c.machine-machine.result.now m.machine m.compiled trees spelled) in
     let P : List ℕ → Type 0 = λ xs. IsTrue c.selects.result ↔ HasHit trees bounds xs in
     let rest = subst P (take_rest line place) told in
-    let front = c.ignores_front.ensures c.if-ignores_front.true trees spelled in
+    let front = c.ignores_front.ensures query.text c.prefilter.ensures c.if-ignores_front.true trees spelled in
     let whole = rest_tells trees bounds line place behind.1 front behind.2 in
     one_answer c.selects.result (has_hit trees bounds line) (λ t. whole.0 (rest.0 t), λ h. rest.1 (whole.1 h))
     (hits_decided trees bounds line).whole_line

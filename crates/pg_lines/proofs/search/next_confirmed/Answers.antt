@@ -2,12 +2,12 @@ use Rattle.std.proofs.Common.{◌≤◌, ◌^◌, ℕ, Option, Some, None, List,
 use Rattle.std.specs.Option.{MatchOption}
 use Rattle.pg_selection.specs.Search.{SearchText, Pattern, AreTreesOf, search_of, uninverted, terminator_of}
 use Rattle.pg_selection.specs.Selection.{selects}
-use Rattle.pg_lines.specs.Finding.{HasNoNextHit, IsNextHit}
+use Rattle.pg_prefilter.specs.NextHits.{HasNoNextHit, IsNextHit}
 use Rattle.pg_blocks.specs.declared.span.Span.{Span}
-use Rattle.pg_lines.proofs.CandidateLemmas.{IsSkipped, skipped_all, skipped_some, skipped_more}
-use Rattle.pg_lines.proofs.CandidateLemmas.{first_selected, first_enough, first_short, found_text}
-use Rattle.pg_lines.proofs.JudgeLemmas.{judges_front}
-use Rattle.pg_lines.proofs.SoughtLemmas.{needles_later, next_sought}
+use Rattle.pg_prefilter.proofs.CandidateLemmas.{IsSkipped, skipped_all, skipped_some, skipped_more}
+use Rattle.pg_prefilter.proofs.CandidateLemmas.{first_selected, first_enough, first_short, found_text}
+use Rattle.pg_prefilter.proofs.JudgeLemmas.{judges_front}
+use Rattle.pg_prefilter.proofs.SoughtLemmas.{needles_later, next_sought}
 use Rattle.pg_lines.proofs.search.next_confirmed.Goals as goal
 use Rattle.pg_lines.proofs.search.next_confirmed.Goals.{then-found-via-then-found}
 use Rattle.pg_lines.proofs.search.next_confirmed.Goals.{then-found-via-else-found+then-has_hit}
@@ -19,7 +19,7 @@ returns-in-Nowhere-clause-found g c = λ trees spelled.
     let from = c.loop-in_vain.from in
     let i = c.loop-in_vain.invariant in
     skipped_all (search_of (uninverted text) trees) c.args.at from bytes (i.skipped trees spelled)
-    (next_sought text bytes from c.next_line.new.self _ c.in-Nowhere.ensures.needles c.in-Nowhere.ensures.some
+    (next_sought text bytes from c.next_candidate.new.needles _ c.in-Nowhere.ensures.needles c.in-Nowhere.ensures.some
     c.in-Nowhere.ensures.next trees spelled)
 
 pub has_hit-requires-clause-short : goal.has_hit-requires-clause-short
@@ -30,8 +30,8 @@ has_hit-requires-clause-short g c =
     let i = c.loop-in_vain.invariant in
     let from = c.loop-in_vain.from in
     let found = c.in-Found.found in
-    let next = next_sought text bytes from c.next_line.new.self _ c.in-Found.ensures.needles c.in-Found.ensures.some
-    c.in-Found.ensures.next in
+    let next = next_sought text bytes from c.next_candidate.new.needles _ c.in-Found.ensures.needles
+    c.in-Found.ensures.some c.in-Found.ensures.next in
     let first = next.3 in
     let cut = found_text text from bytes found c.terminator-end.result c.text_of-text.result.now
     c.terminator-end.ensures first c.text_of-text.ensures.text in
@@ -46,8 +46,8 @@ returns-then-found-clause-found g c =
     let i = c.loop-in_vain.invariant in
     let from = c.loop-in_vain.from in
     let found = c.in-Found.found in
-    let next = next_sought text bytes from c.next_line.new.self _ c.in-Found.ensures.needles c.in-Found.ensures.some
-    c.in-Found.ensures.next in
+    let next = next_sought text bytes from c.next_candidate.new.needles _ c.in-Found.ensures.needles
+    c.in-Found.ensures.some c.in-Found.ensures.next in
     let first = next.3 in
     record {
       within = (omega (arith, i.low, next.0), next.1, next.2);
@@ -72,8 +72,8 @@ loop-in_vain-preserved g c =
     let i = c.loop-in_vain.invariant in
     let from = c.loop-in_vain.from in
     let found = c.in-Found.found in
-    let next = next_sought text bytes from c.next_line.new.self _ c.in-Found.ensures.needles c.in-Found.ensures.some
-    c.in-Found.ensures.next in
+    let next = next_sought text bytes from c.next_candidate.new.needles _ c.in-Found.ensures.needles
+    c.in-Found.ensures.some c.in-Found.ensures.next in
     let first = next.3 in
     let cut = found_text text from bytes found c.terminator-end.result c.text_of-text.result.now
     c.terminator-end.ensures first c.text_of-text.ensures.text in
@@ -83,7 +83,7 @@ loop-in_vain-preserved g c =
       within = next.2;
       few = c.with_one_in_vain-in_vain.ensures.few;
       needles = c.with_one_in_vain-in_vain.ensures.needles bytes found.line.end
-          (needles_later text bytes from found.line.end c.next_line.new.self (omega (arith, next.0, next.1))
+          (needles_later text bytes from found.line.end c.next_candidate.new.needles (omega (arith, next.0, next.1))
           c.in-Found.ensures.needles);
       some = λ few. c.with_one_in_vain-in_vain.ensures.some few c.in-Found.ensures.some;
       short = (first_short text from bytes found first i.short).1;
@@ -124,7 +124,7 @@ returns-in-Nowhere-clause-needles g c = tt
 pub has_hit-requires-clause-line : goal.has_hit-requires-clause-line
 has_hit-requires-clause-line g c =
     let line = c.in-Found.found.line in
-    let next = next_sought c.args.query.now.text c.args.bytes.now c.loop-in_vain.from c.next_line.new.self _
+    let next = next_sought c.args.query.now.text c.args.bytes.now c.loop-in_vain.from c.next_candidate.new.needles _
     c.in-Found.ensures.needles c.in-Found.ensures.some c.in-Found.ensures.next in
     let text = c.text_of-text.ensures in
     judges_front c.args.query.now.text c.args.bytes.now c.args.strings.now c.requires.ready.strings

@@ -2,8 +2,8 @@ use Rattle.std.proofs.Common.{List, ◌-◌, ◌<◌, ◌≤◌, length, drop}
 use Rattle.pg_match.specs.Machines.{Fits}
 use Rattle.pg_blocks.specs.Lines.{AreShort}
 use Rattle.pg_selection.specs.Search.{Pattern, AreTreesOf, search_of, uninverted, terminator_of}
-use Rattle.pg_lines.specs.Candidates.{AreNeedles, AreSome}
-use Rattle.pg_lines.proofs.CandidateLemmas.{IsSkipped}
+use Rattle.pg_prefilter.specs.Candidates.{AreNeedles, AreSome}
+use Rattle.pg_prefilter.proofs.CandidateLemmas.{IsSkipped}
 use Rattle.pg_lines.proofs.search.next_confirmed.Given as goal
 
 -- the lines before `from` aren't selected

@@ -1,4 +1,4 @@
-use Rattle.pg_lines.proofs.SoughtLemmas.{needles_behind}
+use Rattle.pg_prefilter.proofs.SoughtLemmas.{needles_behind}
 use Rattle.pg_lines.proofs.search.next_hit.Goals as goal
 
 pub returns-then-is_empty-clause-needles : goal.returns-then-is_empty-clause-needles

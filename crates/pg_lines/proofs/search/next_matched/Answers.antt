@@ -2,9 +2,9 @@ use Rattle.std.proofs.Common.{ℕ, ◌+◌, ◌-◌, List, length, take, drop, s
 use Rattle.std.proofs.Common.{ap, length-drop}
 use Rattle.std.proofs.lemmas.List.{take_rest}
 use Rattle.pg_selection.specs.Search.{search_of, uninverted, terminator_of}
-use Rattle.pg_lines.specs.Gathered.{IsNextLine}
-use Rattle.pg_lines.proofs.JudgeLemmas.{judges_behind}
-use Rattle.pg_lines.proofs.RunLemmas.{line_found, line_passed, line_unselected}
+use Rattle.pg_prefilter.specs.NextHits.{IsNextLine}
+use Rattle.pg_prefilter.proofs.JudgeLemmas.{judges_behind}
+use Rattle.pg_prefilter.proofs.LineLemmas.{line_found, line_passed, line_unselected}
 use Rattle.pg_lines.proofs.ScanLemmas.{GoesOn, scanned, not_passed, scanned_short}
 use Rattle.pg_lines.proofs.search.next_matched.Goals as goal
 use Rattle.pg_lines.proofs.search.next_matched.Goals.{then-stop-rest, else-stop-rest}

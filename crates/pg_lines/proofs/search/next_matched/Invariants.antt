@@ -3,7 +3,7 @@ use Rattle.pg_match.specs.Machines.{Fits}
 use Rattle.pg_blocks.specs.Lines.{AreShort}
 use Rattle.pg_selection.specs.Search.{Pattern, AreTreesOf, search_of, uninverted, terminator_of}
 use Rattle.pg_selection.specs.Runs.{AllLines}
-use Rattle.pg_lines.proofs.RunLemmas.{IsPassed}
+use Rattle.pg_prefilter.proofs.LineLemmas.{IsPassed}
 use Rattle.pg_lines.proofs.search.next_matched.Given as goal
 
 -- the lines before `start` aren't selected

@@ -5,7 +5,7 @@ use Rattle.pg_selection.specs.Search.{search_of, uninverted, terminator_of}
 use Rattle.pg_selection.specs.Runs.{AreRuns}
 use Rattle.pg_selection.specs.declared.run.Run.{Run}
 use Rattle.pg_lines.proofs.BetweenLemmas.{passed_none, passed_more, last_run, all_lines, no_part}
-use Rattle.pg_lines.proofs.RunLemmas.{short_behind}
+use Rattle.pg_lines.proofs.GatherLemmas.{short_behind}
 use Rattle.pg_lines.proofs.search.runs_between_hits.Goals as goal
 
 -- the number of lines from one place up to another, by the terminator that was asked for

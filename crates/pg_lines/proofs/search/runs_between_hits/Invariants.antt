@@ -3,7 +3,7 @@ use Rattle.pg_match.specs.Machines.{Fits}
 use Rattle.pg_blocks.specs.Lines.{AreShort}
 use Rattle.pg_selection.specs.Search.{Pattern, AreTreesOf, search_of, terminator_of}
 use Rattle.pg_lines.proofs.BetweenLemmas.{IsPassedBy}
-use Rattle.pg_lines.specs.Candidates.{AreNeedles}
+use Rattle.pg_prefilter.specs.Candidates.{AreNeedles}
 use Rattle.pg_lines.proofs.search.runs_between_hits.Given as goal
 
 abbrev pub invariant-loop-line : goal.invariant-loop-line

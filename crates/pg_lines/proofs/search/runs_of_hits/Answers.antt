@@ -7,14 +7,14 @@ use Rattle.pg_selection.specs.Search.{SearchText, Pattern, AreTreesOf, search_of
 use Rattle.pg_selection.specs.Selection.{parts}
 use Rattle.pg_selection.specs.Runs.{AllLines, AreRuns}
 use Rattle.pg_selection.specs.BlockParts.{part_at}
-use Rattle.pg_lines.specs.Gathered.{IsNextLine, IsGathered}
-use Rattle.pg_lines.specs.Candidates.{AreNeedles}
+use Rattle.pg_prefilter.specs.NextHits.{IsNextLine}
+use Rattle.pg_lines.specs.Gathered.{IsGathered}
+use Rattle.pg_prefilter.specs.Candidates.{AreNeedles}
 use Rattle.pg_selection.specs.declared.run.Run.{Run}
 use Rattle.pg_selection.specs.declared.run.Part.{Part}
 use Rattle.pg_blocks.specs.declared.span.Span.{Span}
-use Rattle.pg_lines.proofs.GatherLemmas.{gathered_none, gathered_all, all_counted}
+use Rattle.pg_lines.proofs.GatherLemmas.{gathered_none, gathered_all, all_counted, short_behind}
 use Rattle.pg_lines.proofs.PartLemmas.{line_one, line_short, parts_with_line, parts_of_all, parts_before_none}
-use Rattle.pg_lines.proofs.RunLemmas.{short_behind}
 use Rattle.pg_lines.proofs.search.runs_of_hits.Goals as goal
 
 -- where nothing is inverted, the lines with a hit are those that are selected

@@ -4,7 +4,7 @@ use Rattle.pg_blocks.specs.Lines.{AreShort}
 use Rattle.pg_selection.specs.Search.{Pattern, AreTreesOf, search_of, terminator_of}
 use Rattle.pg_lines.specs.Gathered.{IsGathered}
 use Rattle.pg_lines.proofs.PartLemmas.{parts_before}
-use Rattle.pg_lines.specs.Candidates.{AreNeedles}
+use Rattle.pg_prefilter.specs.Candidates.{AreNeedles}
 use Rattle.pg_lines.proofs.search.runs_of_hits.Given as goal
 
 abbrev pub invariant-loop-line : goal.invariant-loop-line

@@ -1,8 +1,13 @@
 use Rattle.std.proofs.Common.{length, arith, subst, sym}
 use Rattle.std.specs.Prelude.{IfSome}
-use Rattle.pg_lines.specs.Strings.{IsSetOf, IsSuffixOf}
-use Rattle.pg_lines.proofs.JudgeLemmas.{if_some_more, sought_known, strings_known, head_known}
+use Rattle.pg_prefilter.specs.Literals.{TellHeads}
+use Rattle.pg_prefilter.specs.Strings.{IsHead, IsSetOf, IsSuffixOf}
+use Rattle.pg_prefilter.proofs.JudgeLemmas.{if_some_more, sought_known, strings_known, head_known}
 use Rattle.pg_lines.proofs.search.search_by.Goals as goal
+
+pub only_head-requires : goal.only_head-requires
+only_head-requires g c =
+    subst (λ text. TellHeads text c.args.literals.now) (sym c.text-options.ensures.text) c.requires.heads
 
 pub selected_runs-requires-clause-ready : goal.selected_runs-requires-clause-ready
 selected_runs-requires-clause-ready g c =
@@ -19,12 +24,16 @@ selected_runs-requires-clause-ready g c =
             new.result.set c.requires.set c.requires.set_searched c.fixed_strings.ensures new.ensures.set
             new.ensures.searched;
         head = head_known text bytes searched new.result.searched.now c.only_head.result new.result.head
-            (length c.args.literals.now) c.requires.searched c.only_head.ensures.head c.only_head.ensures.some
+            (length c.args.literals.now) c.requires.searched
+            (subst (λ t. IfSome c.only_head.result (IsHead t)) c.text-options.ensures.text c.only_head.ensures.head)
+            c.only_head.ensures.some
             new.ensures.head new.ensures.searched;
-        suffix = subst (λ o. IfSome o (λ suffix. IsSuffixOf text suffix.now)) (sym new.ensures.suffix) c.suffix.ensures;
+        suffix = subst (λ o. IfSome o (λ suffix. IsSuffixOf text suffix.now)) (sym new.ensures.suffix)
+            (c.suffix.ensures text c.prefilter-found.ensures);
       };
       needles = c.in_ok-needles.ensures text bytes c.requires.literals (sought_known _ _ _ sought known)
-          c.first_row.ensures c.requires.searched (sought_known _ _ _ sought c.requires.set_searched);
+          (c.first_row.ensures text c.prefilter-found.ensures) c.requires.searched
+          (sought_known _ _ _ sought c.requires.set_searched);
       fits = c.requires.fits;
       short = c.requires.short;
     }

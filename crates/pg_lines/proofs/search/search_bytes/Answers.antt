@@ -1,7 +1,7 @@
 use Rattle.std.proofs.Common.{◌≡◌, arith}
 use Rattle.std.proofs.lemmas.Grind.{common_steps}
 use Rattle.pg_literal.specs.Literals.{as_searched}
-use Rattle.pg_lines.proofs.NeedleSetLemmas.{if_some}
+use Rattle.pg_prefilter.proofs.NeedleSetLemmas.{if_some}
 use Rattle.pg_lines.proofs.search.search_bytes.Goals as goal
 
 pub search_by-requires-clause-set_searched : goal.search_by-requires-clause-set_searched

@@ -1,19 +1,16 @@
-use Rattle.std.proofs.Common.{length, sym, ◌∙◌, arith}
-use Rattle.std.proofs.lemmas.Bool.{eqb-false}
-use Rattle.std.proofs.lemmas.List.{length-map}
-use Rattle.pg_lines.specs.Literals.{data_of}
-use Rattle.pg_lines.proofs.MayLemmas.{few_missed, many_missed}
+use Rattle.std.proofs.Common.{◌≡◌, ℕ, List, false, sym, subst}
+use Rattle.pg_literal.specs.Literals.{as_searched}
+use Rattle.pg_selection.specs.Search.{SearchText, Pattern, AreTreesOf, search_of, uninverted}
+use Rattle.pg_selection.specs.Runs.{AllLines}
+use Rattle.pg_prefilter.specs.Prefilters.{IsPrefilterOf}
 use Rattle.pg_lines.proofs.query.Query.may_hold.Goals as goal
 
-pub returns-in-Some : goal.returns-in-Some
-returns-in-Some g c = λ lacks bytes is trees spelled.
-    many_missed c.args.self.now.text bytes c.args.searched.now is trees spelled c.in-Some.set.now c.in-Some.ensures
-    c.requires (c.may_stand.ensures lacks)
+pub may_hold-requires-clause-found : goal.may_hold-requires-clause-found
+may_hold-requires-clause-found g c =
+    subst (λ text. IsPrefilterOf text c.prefilter.result.now) (sym c.text.ensures.text) c.prefilter.ensures
 
-pub returns-else-is_empty : goal.returns-else-is_empty
-returns-else-is_empty g c = λ lacks bytes is trees spelled.
-    let literals = c.literals-literals.result.now in
-    let some = eqb-false (length literals) 0 (sym c.is_empty.ensures ∙ c.if-is_empty.false) in
-    let size = length-map literals (data_of {A = g.row.A.Denot}) in
-    few_missed c.args.self.now.text bytes c.args.searched.now is trees spelled literals
-    c.literals-literals.ensures.literals (omega (arith, some, size)) (c.some_stands.ensures lacks)
+pub returns : goal.returns
+returns g c = λ lacks.
+    let Tells : SearchText → Type 0 = λ text. (bytes : List ℕ) → c.args.searched.now ≡ as_searched text.fold bytes
+    → (trees : List Pattern) → AreTreesOf text trees → AllLines (search_of (uninverted text) trees) false bytes in
+    subst Tells c.text.ensures.text (c.may_hold.ensures lacks)

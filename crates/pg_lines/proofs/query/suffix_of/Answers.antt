@@ -1,9 +1,0 @@
-use Rattle.std.proofs.Common.{map}
-use Rattle.pg_pattern.specs.Trees.{pattern}
-use Rattle.pg_lines.proofs.SuffixLemmas.{suffix_known}
-use Rattle.pg_lines.proofs.query.suffix_of.Goals as goal
-
-pub returns : goal.returns
-returns g c =
-    suffix_known c.of.result c.args.text.now (map pattern c.args.trees.now) c.bounds.result c.requires.trees
-    c.bounds.ensures c.of.ensures

@@ -1,0 +1,14 @@
+pub mod CandidateLemmas
+pub mod HeadLemmas
+pub mod HitLemmas
+pub mod JudgeLemmas
+pub mod LiteralLemmas
+pub mod MayLemmas
+pub mod NeedleLemmas
+pub mod NeedleRowLemmas
+pub mod NeedleSetLemmas
+pub mod SoughtLemmas
+pub mod StringLemmas
+pub mod SuffixLemmas
+pub mod StandingLemmas
+pub mod LineLemmas

@@ -1,0 +1,106 @@
+-- Queries whose patterns are all fixed strings, or whose matches begin alike or are a line's end, and where these stand
+-- in a line (XCU grep, -F; GNU grep, -w and -o).
+use Rattle.std.specs.Prelude.{◌≡◌, ℕ, ◌+◌, ◌<◌, ◌≤◌, List, length, map, slice_range, IfSome}
+use Rattle.std.specs.Prelude.{Option, MatchOption, IsTrue}
+use Rattle.std.specs.List.{Any}
+use Rattle.memchr.specs.Find.{OccursAt}
+use Rattle.pg_pattern.specs.Bounds.{MayBegin, MayEnd}
+use Rattle.pg_pattern.specs.Hits.{Hit, IsNext}
+use Rattle.pg_literal.specs.Literals.{as_searched}
+use Rattle.pg_literal.specs.Rests.{IgnoresFront}
+use Rattle.pg_literal.specs.Suffixes.{IsSuffix, suffix_row}
+use Rattle.pg_literal.specs.declared.suffix.LineSuffix.{LineSuffix}
+use Rattle.pg_strings.specs.Outcomes.{strings_of}
+use Rattle.pg_selection.specs.Search.{SearchText, Pattern, Bounds, Fixed, AreTreesOf, bounds_of, patterns}
+use Rattle.pg_prefilter.specs.Literals.{AreLiterals, set_literals}
+use Rattle.pg_prefilter.specs.declared.literal_set.LiteralSet.{LiteralSet}
+use Rattle.pg_prefilter.specs.declared.strings.BlockStrings.{BlockStrings}
+use Rattle.pg_prefilter.specs.declared.strings.NextString.{NextString}
+use Rattle.pg_prefilter.specs.declared.strings.NextString.TheVariants.{Found, Nowhere, Behind, GaveUp}
+
+-- the strings are the patterns, which are fixed strings; with -i they are in lower case
+pub record AreStrings (text : SearchText) (strings : List (List ℕ)) : Type 0 where
+  pub fixed : text.kind ≡ Fixed
+  pub each : strings ≡ map (as_searched text.fold) (patterns text.lists)
+
+-- a string stands in the line from one place up to another, and a match may begin and end there
+pub record IsStringHit (strings : List (List ℕ)) (bounds : Bounds) (line : List ℕ) (i j : ℕ) : Type 0 where
+  pub begins : MayBegin bounds line i
+  pub ends : MayEnd bounds line j
+  pub stands : Any (λ string. OccursAt line string i × (i + length string ≡ j)) strings
+
+-- of the strings that stand so the one that starts first from a place on, and of these the longest
+pub record IsNextString (strings : List (List ℕ)) (bounds : Bounds) (line : List ℕ) (place i j : ℕ) : Type 0 where
+  pub later : place ≤ i
+  pub some : i < j
+  pub hit : IsStringHit strings bounds line i j
+  pub first : (i' j' : ℕ) → place ≤ i' → i' < i → IsStringHit strings bounds line i' j' → ⊥
+  pub longest : (j' : ℕ) → IsStringHit strings bounds line i j' → j' ≤ j
+
+-- no string stands so from a place on
+abbrev pub HasNoString : List (List ℕ) → Bounds → List ℕ → ℕ → Type 0
+HasNoString strings bounds line place = (i j : ℕ) → place ≤ i → IsStringHit strings bounds line i j → ⊥
+
+-- the end of the longest string that stands so at a place, if one does
+abbrev pub IsLongestHit : List (List ℕ) → Bounds → List ℕ → ℕ → Option ℕ → Type 0
+IsLongestHit strings bounds line place stop = MatchOption stop ((j : ℕ) → IsStringHit strings bounds line place j → ⊥)
+    (λ stop. (place < stop) × IsStringHit strings bounds line place stop
+    × ((j : ℕ) → IsStringHit strings bounds line place j → j ≤ stop))
+
+-- the next string of a line, or a place that none begins before, if the search wasn't given up
+abbrev pub FindsString : List (List ℕ) → Bounds → List ℕ → ℕ → NextString → Type 0
+FindsString strings bounds line place (Found span) = IsNextString strings bounds line place span.start span.end
+FindsString strings bounds line place Nowhere = HasNoString strings bounds line place
+FindsString strings bounds line place (Behind next) =
+    (place ≤ next) × (next ≤ length line)
+    × ((i j : ℕ) → place ≤ i → IsStringHit strings bounds line i j → (next ≤ i) × (i < j))
+FindsString strings bounds line place GaveUp = Unit {0}
+
+-- the next match of some patterns from a place on; or there is none; or a place that none begins before, and none is
+-- empty
+abbrev pub FindsPart : List Pattern → Bounds → List ℕ → ℕ → NextString → Type 0
+FindsPart patterns bounds line place (Found span) = IsNext patterns bounds line place span.start span.end
+FindsPart patterns bounds line place Nowhere = (i j : ℕ) → place ≤ i → Hit patterns bounds line i j → ⊥
+FindsPart patterns bounds line place (Behind next) =
+    (place ≤ next) × (next ≤ length line)
+    × ((i j : ℕ) → place ≤ i → Hit patterns bounds line i j → (next ≤ i) × (i < j))
+FindsPart patterns bounds line place GaveUp = Unit {0}
+
+-- the literals of a set tell of the query's lines; where it says so they are its patterns
+abbrev pub IsSetOf : {A : Type 0} → SearchText → LiteralSet A → Type 0
+IsSetOf text set =
+    AreLiterals text (set_literals set) × (IsTrue set.is_fixed → AreStrings text (strings_of set.strings))
+
+-- no hit of the search is empty, and each begins with the text; with -i in the line in lower case
+abbrev pub IsHead : SearchText → List ℕ → Type 0
+IsHead text head =
+    (trees : List Pattern) → AreTreesOf text trees → (line : List ℕ) (i j : ℕ) → Hit trees (bounds_of text) line i j
+    → (i < j) × OccursAt (as_searched text.fold line) head i
+
+-- the hits of the search behind a place of a line are those of the rest of the line
+abbrev pub HitsIgnoreFront : SearchText → Type 0
+HitsIgnoreFront text = (trees : List Pattern) → AreTreesOf text trees → IgnoresFront trees (bounds_of text)
+
+-- the hits of the search are where the suffix stands at a line's end
+abbrev pub IsSuffixOf : {A : Type 0} → SearchText → LineSuffix A → Type 0
+IsSuffixOf text suffix =
+    (trees : List Pattern) → AreTreesOf text trees → IsSuffix trees (bounds_of text) (suffix_row suffix)
+
+-- the strings of a query, the text that its hits begin with, or the suffix that they are, if there are such; and the
+-- bytes as they are searched for in them
+pub record AreBlockStrings {A : Type 0} (text : SearchText) (bytes : List ℕ) (strings : BlockStrings A) : Type 0 where
+  pub set : IfSome strings.set (λ set. AreStrings text (strings_of set.now)
+      × (strings.searched.now ≡ as_searched text.fold bytes))
+  pub head : IfSome strings.head (λ head. IsHead text head × (strings.searched.now ≡ as_searched text.fold bytes))
+  pub suffix : IfSome strings.suffix (λ suffix. IsSuffixOf text suffix.now)
+
+-- the same, where the line stands at a place of the bytes
+pub record JudgesLine {A : Type 0} (text : SearchText) (strings : BlockStrings A) (line : List ℕ) (at : ℕ) : Type 0
+  where
+    pub set : IfSome strings.set (λ set. AreStrings text (strings_of set.now)
+        × (at + length line ≤ length strings.searched.now)
+        × (slice_range strings.searched.now at (at + length line) ≡ as_searched text.fold line))
+    pub head : IfSome strings.head (λ head. IsHead text head
+        × (at + length line ≤ length strings.searched.now)
+        × (slice_range strings.searched.now at (at + length line) ≡ as_searched text.fold line))
+    pub suffix : IfSome strings.suffix (λ suffix. IsSuffixOf text suffix.now)

@@ -1,0 +1,115 @@
+//! Many literals, prepared to be looked for together.
+ghost use Rattle.std.specs.Prelude.{◌≡◌, ◌⊎◌, ◌<◌, ◌≤◌, [], length, map, IsTrue, IfOk, IfSome, IsSomeAnd};
+ghost use Rattle.std.specs.List.{All};
+ghost use Rattle.pg_strings.specs.Keys.{items_of};
+ghost use Rattle.pg_strings.specs.Outcomes.{strings_of};
+
+use pg_literal::Literal;
+use pg_pattern::Bounds;
+use pg_strings::StringSet;
+use std::alloc::{AllocError, Allocator, Global};
+
+/// Up to so many literals are looked for one by one.
+const FEW: usize = 8;
+
+/// Many literals, none of them empty, prepared to be looked for together.
+#[derive(Drop)]
+pub struct LiteralSet<A: Allocator = Global> {
+    pub strings: StringSet<A>,
+    /// Each of them is enough: a line that holds it has a hit.
+    pub is_enough: bool,
+    /// They are all patterns of the query, which are fixed strings.
+    pub is_fixed: bool,
+    ghost some: { 0 < length (strings_of strings) },
+}
+
+/// Copies of the texts of literals.
+fn copies_of<A: Allocator + Copy>(
+    alloc: A,
+    literals: &[Literal<A>],
+) -> Result<Vec<Vec<u8, A>, A>, AllocError>
+    ensures { IfOk result (λ copies. map items_of copies.items ≡ map (λ literal. literal.text.items) literals.now) }
+{
+    let mut copies = Vec::new(alloc);
+    for literal in literals {
+        copies.push(literal.text.to_vec(alloc)?)?;
+    }
+    Ok(copies)
+}
+
+/// Whether some literal is empty.
+fn has_empty<A: Allocator>(literals: &[Literal<A>]) -> bool
+    ensures { IsTrue result ⊎ All (λ literal. 1 ≤ length literal.text.items) literals.now }
+{
+    literals.iter().any(|literal| literal.text.is_empty())
+}
+
+/// Whether each literal has at most two bytes.
+fn are_all_short<A: Allocator>(literals: &[Literal<A>]) -> bool {
+    literals.iter().all(|literal| literal.text.len() <= 2)
+}
+
+/// Whether each literal is enough.
+fn are_all_enough<A: Allocator>(literals: &[Literal<A>]) -> bool
+    ensures { IsTrue result → All (λ literal. IsTrue literal.is_enough) literals.now }
+{
+    literals.iter().all(|literal| literal.is_enough)
+}
+
+impl<A: Allocator + Copy> LiteralSet<A> {
+    /// The set of more than 8 literals, unless one is empty, with a flag that says whether they are all patterns and
+    /// fixed strings. Words of one or two bytes have none: they stand nearly everywhere within other words, where the
+    /// automaton is faster. A refused request for memory is the only error.
+    pub(crate) fn of(
+        alloc: A,
+        literals: &[Literal<A>],
+        is_fixed: bool,
+        bounds: Bounds,
+    ) -> Result<Option<LiteralSet<A>>, AllocError>
+        ensures strings { IfOk result (λ found. IfSome found (λ set. strings_of set.strings
+            ≡ map (λ literal. literal.text.items) literals.now)) }
+        ensures enough { IfOk result (λ found. IfSome found (λ set. IsTrue set.is_enough
+            → All (λ literal. IsTrue literal.is_enough) literals.now)) }
+        ensures fixed { IfOk result (λ found. IfSome found (λ set. set.is_fixed ≡ is_fixed)) }
+    {
+        let are_dense = bounds == Bounds::Word && are_all_short(literals);
+        if literals.len() <= FEW || has_empty(literals) || are_dense {
+            return Ok(None);
+        }
+        let strings = StringSet::new(alloc, copies_of(alloc, literals)?)?;
+        let is_enough = are_all_enough(literals);
+        Ok(Some(LiteralSet {
+            strings,
+            is_enough,
+            is_fixed,
+        }))
+    }
+}
+
+/// The strings of a set that are the patterns of a query.
+pub fn fixed_strings<'l, A: Allocator>(set: Option<&'l LiteralSet<A>>) -> Option<&'l StringSet<A>>
+    ensures { IfSome result (λ strings. IsSomeAnd set.entry (λ set. IsTrue set.now.is_fixed
+        × (strings.now ≡ set.now.strings))) }
+{
+    match set {
+        Some(set) => {
+            if set.is_fixed {
+                Some(&set.strings)
+            } else {
+                None
+            }
+        }
+        None => None,
+    }
+}
+
+/// At most 8 literals; none where there are more.
+pub(crate) fn few_of<A: Allocator>(alloc: A, literals: Vec<Literal<A>, A>) -> Vec<Literal<A>, A>
+    ensures { (result ≡ literals) ⊎ (result.items ≡ []) }
+{
+    if literals.len() <= FEW {
+        literals
+    } else {
+        Vec::new(alloc)
+    }
+}

@@ -1,0 +1,137 @@
+//! What lines with a hit hold, as it is looked for in a block.
+ghost use Rattle.std.specs.Prelude.{◌≡◌, ◌<◌, ◌≤◌, ℕ, List, [], length, map, false, None, IfOk, IfSome, IsSome, IsTrue};
+ghost use Rattle.pg_literal.specs.Literals.{as_searched};
+ghost use Rattle.pg_selection.specs.Search.{SearchText};
+ghost use Rattle.pg_prefilter.specs.Literals.{AreLiterals, IsRowOf, data_of, set_literals};
+ghost use Rattle.pg_prefilter.specs.Candidates.{AreNeedles, AreSome, IsNextSought, literals_sought, row_sought};
+
+use crate::candidate::NextLine;
+use crate::literal_set::LiteralSet;
+use crate::needle::NeedleList;
+use crate::needle_row::NeedleRow;
+use crate::needle_set::NeedleSet;
+use pg_literal::{Literal, RowFinder};
+use pg_selection::QueryText;
+use std::alloc::{AllocError, Allocator};
+
+/// It takes as long to look at a line that holds a needle as to search so many bytes line by line.
+pub const FAR: usize = 128;
+
+/// What lines with a hit hold, as it is looked for in a block: a few literals one by one, many together, a row of sets,
+/// or nothing any more.
+pub enum Needles<'n, A: Allocator> {
+    Few(NeedleList<'n, A>),
+    Many(NeedleSet<'n, A>),
+    Row(NeedleRow<'n, A>),
+    /// They stood in too many lines in vain.
+    GivenUp,
+    /// To compare them with the text takes too long, in single lines as in the block, or the row stands in too many
+    /// lines.
+    TooSlow,
+}
+
+impl<'n, A: Allocator> Drop for Needles<'n, A> {
+    fn drop(self) {
+        match self {
+            Needles::Few(_) => {}
+            Needles::Many(_) => {}
+            Needles::Row(_) => {}
+            Needles::GivenUp => {}
+            Needles::TooSlow => {}
+        }
+    }
+}
+
+impl<'n, A: Allocator> Needles<'n, A> {
+    /// A row, if there is one, else the needles of a set of literals, if there is one, else those of a few literals.
+    pub fn new(
+        alloc: A,
+        literals: &'n [Literal<A>],
+        set: Option<&'n LiteralSet<A>>,
+        row: Option<&'n RowFinder<A>>,
+        searched: &'n [u8],
+    ) -> Result<Needles<'n, A>, AllocError>
+        ensures { (text : SearchText) → (bytes : List ℕ) → AreLiterals text (map data_of literals.now)
+            → IfSome set.entry (λ set. AreLiterals text (set_literals set.now))
+            → IfSome row.entry (λ row. IsRowOf text row.now)
+            → (0 < length literals.now → searched.now ≡ as_searched text.fold bytes)
+            → IfSome set.entry (λ _. searched.now ≡ as_searched text.fold bytes)
+            → IfOk result (AreNeedles text bytes 0) }
+    {
+        match (row, set) {
+            (Some(row), _) => Ok(Needles::Row(NeedleRow::new(row))),
+            (None, Some(set)) => Ok(Needles::Many(NeedleSet::new(set, searched))),
+            (None, None) => {
+                let list = NeedleList::new(alloc, literals, searched)?;
+                Ok(Needles::Few(list))
+            }
+        }
+    }
+
+    /// Whether there is none.
+    pub fn is_empty(&self) -> bool
+        ensures { result ≡ false → AreSome self.now }
+    {
+        match self {
+            Needles::Few(list) => list.is_empty(),
+            Needles::Many(_) | Needles::Row(_) => false,
+            Needles::GivenUp | Needles::TooSlow => true,
+        }
+    }
+
+    /// Whether to compare them with the text takes too long.
+    pub fn are_too_slow(&self) -> bool {
+        match self {
+            Needles::TooSlow => true,
+            Needles::Few(_) | Needles::Many(_) | Needles::Row(_) | Needles::GivenUp => false,
+        }
+    }
+
+    /// Gives them up, since they stood in too many lines in vain: the row of the query, if it has one, takes the place
+    /// of literals. Tells whether it does.
+    pub fn give_up(&mut self, row: Option<&'n RowFinder<A>>) -> bool
+        ensures needles { (text : SearchText) (bytes : List ℕ) (at : ℕ)
+            → IfSome row.entry (λ row. IsRowOf text row.now) → AreNeedles text bytes at self.new }
+        ensures literals { literals_sought self.new ≡ [] }
+        ensures row { IsTrue result → IsSome (row_sought self.new) }
+        ensures none { result ≡ false → row_sought self.new ≡ None }
+    {
+        let next = match self {
+            Needles::Few(_) | Needles::Many(_) => row,
+            Needles::Row(_) | Needles::GivenUp | Needles::TooSlow => None,
+        };
+        match next {
+            Some(row) => {
+                *self = Needles::Row(NeedleRow::new(row));
+                true
+            }
+            None => {
+                *self = Needles::GivenUp;
+                false
+            }
+        }
+    }
+
+    /// The first line at or behind a place of a block, or its end, that holds one of the literals, or the row, that
+    /// they are of. They are needles of the query in the block, some of them, and not given up.
+    pub fn next_line(&mut self, text: &QueryText<A>, bytes: &[u8], at: usize) -> NextLine
+        requires at { at ≤ length bytes.now }
+        requires needles { AreNeedles text.now bytes.now at self.old }
+        requires some { AreSome self.old }
+        ensures needles { AreNeedles text.now bytes.now at self.new }
+        ensures some { AreSome self.new }
+        ensures literals { literals_sought self.new ≡ literals_sought self.old }
+        ensures row { row_sought self.new ≡ row_sought self.old }
+        ensures next { IsNextSought text.now self.new at bytes.now result }
+    {
+        match self {
+            Needles::Few(list) => match list.next_line(text, bytes, at) {
+                Some(found) => NextLine::Found(found),
+                None => NextLine::Nowhere,
+            },
+            Needles::Many(set) => set.next_line(text, bytes, at),
+            Needles::Row(row) => row.next_line(text, bytes, at),
+            Needles::GivenUp | Needles::TooSlow => NextLine::GaveUp,
+        }
+    }
+}

@@ -1,0 +1,198 @@
+//! What was found in the patterns of a query.
+ghost use Rattle.std.specs.Prelude.{◌≡◌, ◌↔◌, ◌<◌, length, map, All, IfOk, IfSome, IsTrue};
+ghost use Rattle.pg_pattern.specs.Trees.{pattern};
+ghost use Rattle.pg_selection.specs.Search.{SearchText, AreTreesOf, Fixed, patterns};
+ghost use Rattle.pg_blocks.specs.Lines.{IsLine};
+ghost use Rattle.pg_literal.specs.Literals.{as_searched};
+ghost use Rattle.pg_prefilter.specs.Literals.{AreLiterals, IsRowOf, TellHeads, data_of};
+ghost use Rattle.pg_prefilter.specs.Strings.{HitsIgnoreFront, IsSetOf, IsSuffixOf};
+ghost use Rattle.pg_prefilter.specs.Prefilters.{IsPrefilterOf};
+
+use crate::literal_set::{LiteralSet, few_of};
+use pg_grammar::Kind;
+use pg_literal::{LineSuffix, Literal, RowFinder, looks_behind};
+use pg_pattern::Tree;
+use pg_selection::QueryText;
+use std::alloc::{AllocError, Allocator, Global};
+
+/// What was found in the patterns of a query, by which lines are judged before the automaton is asked.
+pub struct Prefilter<A: Allocator = Global> {
+    /// A few literals, if there are few.
+    pub(crate) literals: Vec<Literal<A>, A>,
+    /// All literals, if there are many.
+    pub(crate) literal_set: Option<LiteralSet<A>>,
+    /// The suffix that each match is, if there is one.
+    suffix: Option<LineSuffix<A>>,
+    /// What stands before a place of a line doesn't matter to the matches behind it.
+    ignores_front: bool,
+    /// A row that stands in each line with a hit, if one is known that is rare.
+    row: Option<RowFinder<A>>,
+}
+
+impl<A: Allocator> Drop for Prefilter<A> {
+    fn drop(self) {
+        let Prefilter {
+            literals: _,
+            literal_set: _,
+            suffix: _,
+            ignores_front: _,
+            row: _,
+        } = self;
+    }
+}
+
+impl<A: Allocator> Prefilter<A> {
+    /// What is found in a text's patterns, whose trees these are. A refused request for memory is the only error.
+    pub fn of(alloc: A, text: &QueryText<A>, trees: &[Tree<A>]) -> Result<Prefilter<A>, AllocError>
+    where
+        A: Copy,
+        requires trees { AreTreesOf text.now (map pattern trees.now) }
+        ensures { IfOk result (IsPrefilterOf text.now) }
+    {
+        let literals = literals_of(alloc, text, trees)?;
+        let literal_set = LiteralSet::of(alloc, &literals, is_fixed(text), text.bounds())?;
+        let suffix = suffix_of(alloc, text, trees)?;
+        let ignores_front = ignores_front(text, trees);
+        let row = row_of(alloc, text, trees, &literals)?;
+        Ok(Prefilter {
+            literals: few_of(alloc, literals),
+            literal_set,
+            suffix,
+            ignores_front,
+            row,
+        })
+    }
+
+    /// At most 8 texts of which each line with a hit holds one; none where such texts weren't found, or there are more
+    /// of them. With -i they are in lower case, as those lines are where they are searched for. Where a text is enough,
+    /// each line that holds it has a hit.
+    pub fn literals(&self) -> &[Literal<A>]
+        ensures literals { (text : SearchText) → IsPrefilterOf text self.now
+            → AreLiterals text (map data_of result.now) }
+        ensures heads { (text : SearchText) → IsPrefilterOf text self.now → TellHeads text result.now }
+    {
+        &self.literals
+    }
+
+    /// The same texts, where there are more than 8, and whether they are all patterns.
+    pub fn literal_set(&self) -> Option<&LiteralSet<A>>
+        ensures { (text : SearchText) → IsPrefilterOf text self.now → IfSome result (λ set. IsSetOf text set.now) }
+    {
+        self.literal_set.as_ref()
+    }
+
+    /// Whether the hits behind a place of a line are those of the rest of the line.
+    pub fn ignores_front(&self) -> bool
+        ensures { (text : SearchText) → IsPrefilterOf text self.now → IsTrue result → HitsIgnoreFront text }
+    {
+        self.ignores_front
+    }
+
+    /// The suffix that each match is, if there is one: then it alone judges lines.
+    pub fn suffix(&self) -> Option<&LineSuffix<A>>
+        ensures { (text : SearchText) → IsPrefilterOf text self.now
+            → IfSome result (λ suffix. IsSuffixOf text suffix.now) }
+    {
+        self.suffix.as_ref()
+    }
+
+    /// A row that stands in each line with a hit, if one is known that is rare.
+    pub fn row(&self) -> Option<&RowFinder<A>>
+        ensures { (text : SearchText) → IsPrefilterOf text self.now → IfSome result (λ row. IsRowOf text row.now) }
+    {
+        self.row.as_ref()
+    }
+
+    /// The same, if it costs less to look for than the literals.
+    pub fn first_row(&self) -> Option<&RowFinder<A>>
+        ensures { (text : SearchText) → IsPrefilterOf text self.now → IfSome result (λ row. IsRowOf text row.now) }
+    {
+        let row = self.row()?;
+        if row.is_first { Some(row) } else { None }
+    }
+}
+
+/// Whether the patterns are fixed strings.
+fn is_fixed<A: Allocator>(text: &QueryText<A>) -> bool
+    ensures { IsTrue result ↔ (text.now.kind ≡ Fixed) }
+{
+    match text.kind {
+        Kind::Fixed => true,
+        Kind::Basic | Kind::Extended => false,
+    }
+}
+
+/// Texts of which each line with a hit holds one, where such are found.
+fn literals_of<A: Allocator + Copy>(
+    alloc: A,
+    text: &QueryText<A>,
+    trees: &[Tree<A>],
+) -> Result<Vec<Literal<A>, A>, AllocError>
+    requires trees { AreTreesOf text.now (map pattern trees.now) }
+    ensures literals { IfOk result (λ literals. AreLiterals text.now (map data_of literals.items)) }
+    ensures heads { IfOk result (λ literals. TellHeads text.now literals.items) }
+    ensures fixed { text.now.kind ≡ Fixed → IfOk result (λ literals. 0 < length literals.items
+        → map (λ literal. literal.text.items) literals.items
+        ≡ map (as_searched text.now.fold) (patterns text.now.lists)) }
+{
+    let literals = Literal::of(alloc, trees, text.bounds(), text.fold)?;
+    if are_within_lines(text.terminator(), &literals) {
+        Ok(literals)
+    } else {
+        Ok(Vec::new(alloc))
+    }
+}
+
+/// The suffix that each match of a text's patterns is, whose trees these are, where there is one.
+fn suffix_of<A: Allocator + Copy>(
+    alloc: A,
+    text: &QueryText<A>,
+    trees: &[Tree<A>],
+) -> Result<Option<LineSuffix<A>>, AllocError>
+    requires trees { AreTreesOf text.now (map pattern trees.now) }
+    ensures { IfOk result (λ found. IfSome found (IsSuffixOf text.now)) }
+{
+    LineSuffix::of(alloc, trees, text.bounds())
+}
+
+/// The finder of a row that stands in each line with a hit of a text's patterns, whose trees and literals these are,
+/// where one is known that is rare.
+fn row_of<A: Allocator + Copy>(
+    alloc: A,
+    text: &QueryText<A>,
+    trees: &[Tree<A>],
+    literals: &[Literal<A>],
+) -> Result<Option<RowFinder<A>>, AllocError>
+    requires trees { AreTreesOf text.now (map pattern trees.now) }
+    ensures { IfOk result (λ found. IfSome found (IsRowOf text.now)) }
+{
+    RowFinder::of(
+        alloc,
+        trees,
+        text.bounds(),
+        text.fold,
+        text.terminator(),
+        literals,
+    )
+}
+
+/// Whether what stands before a place of a line doesn't matter to the matches of a text's patterns behind it, whose
+/// trees these are.
+fn ignores_front<A: Allocator>(text: &QueryText<A>, trees: &[Tree<A>]) -> bool
+    requires trees { AreTreesOf text.now (map pattern trees.now) }
+    ensures { IsTrue result → HitsIgnoreFront text.now }
+{
+    !looks_behind(trees, text.bounds())
+}
+
+/// Whether no literal has the byte that ends a line.
+fn are_within_lines<A: Allocator>(end: u8, literals: &[Literal<A>]) -> bool
+    ensures { IsTrue result → All (λ literal. IsLine end literal.text.items) literals.now }
+{
+    for literal in literals {
+        if literal.text.contains(&end) {
+            return false;
+        }
+    }
+    true
+}
