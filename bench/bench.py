@@ -109,8 +109,8 @@ LOG = """
 -cE (GET|HEAD).*404
 """
 
-# Rows of sets: rare ones, common ones, and some of which the log has parts everywhere. And single bytes that stand
-# nowhere, which the automaton would have to confirm.
+# Rows of sets: rare ones, common ones, and some of which the log has parts everywhere. Single bytes that stand nowhere,
+# which the automaton would have to confirm. And alternatives of as many bytes each.
 SETS = r"""
 -c [^[:print:]]
 -c [0-9]
@@ -130,6 +130,11 @@ SETS = r"""
 -c ^#
 -c ^$
 -cE [a-z]{5}_[a-z]{5}
+-c [^[:alnum:][:blank:]]
+-cE ==|!=|<=|>=
+-cE (10|20|30|40|50|60|70|80|90)%
+-cE (Jan|Feb|Mar|Apr|May|Jun|Jul|Aug|Sep|Oct|Nov|Dec)[0-9]
+-cE [a-z]+[.](com|org|net)
 """
 
 LISTS = ("-c", "-ci", "-cw", "-cx", "-o", "-cvx")

@@ -183,7 +183,7 @@ plain [A-Z][a-z]+[A-Z] Ab.:20 xbC:1 => 61
 plain [aeiou]{4} x:1 => none
 plain [^,]+, x:40 ,:1 => later 39
 plain abc x:1 => none
-plain (ab|cd|ef|gh|ij)k x:40 abk:1 => later 42
+plain (ab|cd|ef|gh|ij)k x:40 abk:1 => 40
 plain level=[0-9]{5} level=1:2 level=12345:1 => later 14
 plain a|[A-Z]{3} x:1 => none
 plain ([A-Z]{3})? x:1 => none",

@@ -1,6 +1,7 @@
 pub mod FinderLemmas
 pub mod FoldLemmas
 pub mod InnerLemmas
+pub mod FrontLemmas
 pub mod KnownLemmas
 pub mod LiteralLemmas
 pub mod RangeLemmas

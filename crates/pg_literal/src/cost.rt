@@ -85,12 +85,12 @@ const PAIR: usize = 125;
 const COMPARING: usize = 8_000;
 
 /// The chance of a byte, in parts of 2^32. Controls and bytes above 127 are taken for rare ones: where they aren't,
-/// that soon shows.
-fn chance_of_byte(byte: u8) -> usize {
-    if byte >= 128 || byte < b' ' && byte != b'\t' {
-        ODD
-    } else {
-        CERTAIN >> rarity_of(byte)
+/// that soon shows. Newlines stand behind lines of some 64 bytes.
+pub(crate) fn chance_of_byte(byte: u8) -> usize {
+    match byte {
+        b'\n' => CERTAIN >> 6,
+        b'\t' | b' '..=127 => CERTAIN >> rarity_of(byte),
+        _ => ODD,
     }
 }
 

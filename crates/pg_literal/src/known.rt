@@ -5,10 +5,12 @@ ghost use Rattle.pg_bytes.specs.ByteSets.{bytes};
 ghost use Rattle.pg_pattern.specs.Patterns.{Begin, End, Set};
 ghost use Rattle.pg_pattern.specs.Trees.{pattern};
 ghost use Rattle.pg_literal.specs.Literals.{as_searched};
-ghost use Rattle.pg_literal.specs.Rows.{AreProduct};
+ghost use Rattle.pg_literal.specs.Fronts.{IsFronted};
+ghost use Rattle.pg_literal.specs.Rows.{AreProduct, row_along};
 ghost use Rattle.pg_literal.specs.Known.{head_of, sets_of, IsNothing, Extends, Hides, HidesLast, HidesOthers};
 ghost use Rattle.pg_literal.specs.Known.{IsChosen, LacksFirst, MatchesEmpty, Repeats};
 
+use crate::alternatives::row_of_alternatives;
 use crate::row::{Expansion, Window, Worth, only_text, widest, widest_or_whole};
 use crate::sets::set_of;
 use pg_bytes::ByteSet;
@@ -104,6 +106,21 @@ impl<A: Allocator + Copy> MatchFacts<A> {
                 is_best_sure: is_optional && self.is_sure,
             }
         }
+    }
+
+    /// With bytes of a row of sets in front, the first one first, as matches of alternatives have them.
+    fn with_row(mut self, mut row: Vec<ByteSet, A>) -> Result<MatchFacts<A>, AllocError>
+        ensures { IfOk result (IsFronted (row_along row.items) self) }
+    {
+        row.reverse();
+        self.head.extend_from_slice(&row)?;
+        Ok(MatchFacts {
+            head: self.head,
+            best: self.best,
+            best_worth: self.best_worth,
+            is_sure: false,
+            is_best_sure: false,
+        })
     }
 
     /// With all rounds of a repetition in front but its first ones, of which there are so many.
@@ -300,6 +317,10 @@ pub(crate) fn with_tree<A: Allocator + Copy>(
             Tree::Alt(_, _) => {
                 if let Some(set) = set_of(tree) {
                     let known = known.with_set(&set)?;
+                    return Ok(known);
+                }
+                if let Some(row) = row_of_alternatives(alloc, tree, expansion)? {
+                    let known = known.with_row(row)?;
                     return Ok(known);
                 }
                 let is_optional = matches_empty(tree);

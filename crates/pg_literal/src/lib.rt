@@ -5,6 +5,7 @@
 //! is nothing but that text, it isn't asked at all.
 #![tactic(auto)]
 
+mod alternatives;
 mod cost;
 mod covered;
 mod front;

@@ -94,6 +94,7 @@ pub(crate) fn single(fold: bool) -> Expansion
         fold,
         most: 1,
         plenty: WIDE,
+        unites: false,
     }
 }
 
@@ -106,12 +107,14 @@ pub(crate) fn wider(fold: bool, count: usize) -> Expansion
             fold,
             most: MOST_OF_FEW / count.max(1),
             plenty: PLENTY,
+            unites: false,
         }
     } else {
         Expansion {
             fold,
             most: MOST_OF_ONE.min(MOST / count),
             plenty: WIDE,
+            unites: false,
         }
     }
 }

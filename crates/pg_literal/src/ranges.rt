@@ -4,6 +4,7 @@ ghost use Rattle.std.specs.Prelude.{slice_index, get_or, ◌||◌};
 ghost use Rattle.pg_bytes.specs.ByteSets.{bytes};
 ghost use Rattle.pg_literal.specs.Ranges.{covered, in_pair, in_range, mark};
 
+use crate::cost::chance_of_byte;
 use pg_bytes::ByteSet;
 use std::simd::prelude::*;
 
@@ -32,50 +33,75 @@ pub(crate) enum Cover {
     Four(RangePair, RangePair),
 }
 
-/// How many bytes stand before one of a set and aren't in it; before 0 comes 255.
-fn gap_before(set: &ByteSet, byte: u8) -> u8 {
-    let mut size: u8 = 0;
-    while size < u8::MAX && !set.contains(byte.wrapping_sub(size).wrapping_sub(1)) {
-        size += 1;
+/// The chance of a byte, in parts of 2^32, to be in the gap before one of a set: those before it, as far as they aren't
+/// in the set; before 0 comes 255.
+fn chance_of_gap(set: &ByteSet, byte: u8) -> usize {
+    let mut chance: usize = 0;
+    for distance in 1..=u8::MAX {
+        let other = byte.wrapping_sub(distance);
+        if set.contains(other) {
+            return chance;
+        }
+        chance = chance.saturating_add(chance_of_byte(other));
     }
-    size
+    chance
 }
 
-/// The first byte of a set, at or behind one, with a gap of so many bytes before it; 256 where there is none.
-fn next_cut(set: &ByteSet, from: u16, gap: u8) -> u16
+/// The first byte of a set from `from` on, which is at most 256, with a gap of this chance or more before it; 256 where
+/// there is none.
+fn next_cut(set: &ByteSet, from: u16, chance: usize) -> u16
     requires { from ≤ 256 }
     ensures onward { from ≤ result }
     ensures within { result ≤ 256 }
 {
     for byte in from..256 {
-        if set.contains(byte as u8) && gap_before(set, byte as u8) >= gap {
+        if set.contains(byte as u8) && chance_of_gap(set, byte as u8) >= chance {
             return byte;
         }
     }
     256
 }
 
-/// Whether a set has more than so many gaps of so many bytes or more.
-fn has_more_gaps(set: &ByteSet, most: usize, gap: u8) -> bool {
+/// Whether a set has more than so many gaps of a chance or more.
+fn has_more_gaps(set: &ByteSet, most: usize, chance: usize) -> bool {
     let mut count: usize = 0;
     for byte in 0..=u8::MAX {
-        if set.contains(byte) && gap_before(set, byte) >= gap {
+        if set.contains(byte) && chance_of_gap(set, byte) >= chance {
             count = count.saturating_add(1);
         }
     }
     count > most
 }
 
-/// The least size of which a set has but so many gaps.
-fn size_of_gaps(set: &ByteSet, most: usize) -> u8 {
-    let mut gap: u8 = 1;
-    while gap < u8::MAX && has_more_gaps(set, most, gap) {
-        gap += 1;
+/// The chance of the likeliest gap of a set, of those that are less likely than this; 0 where there is none.
+fn likeliest_gap_below(set: &ByteSet, chance: usize) -> usize {
+    let mut greatest: usize = 0;
+    for byte in 0..=u8::MAX {
+        if set.contains(byte) {
+            let own = chance_of_gap(set, byte);
+            if own < chance {
+                greatest = greatest.max(own);
+            }
+        }
     }
-    gap
+    greatest
 }
 
-/// The least range with each byte of a set from one on up to before another, at most 256; 256 is 0 again, and so on.
+/// The least chance that at most so many gaps of a set have or pass.
+fn chance_of_gaps(set: &ByteSet, most: usize) -> usize {
+    let mut chance = usize::MAX;
+    for _gap in 0..most {
+        let next = likeliest_gap_below(set, chance);
+        if has_more_gaps(set, most, next) {
+            return chance;
+        }
+        chance = next;
+    }
+    chance
+}
+
+/// The least range with each byte of a set from `start` on, up to before `stop`, where 256 is 0 again, and so on. The
+/// second is at least the first, at most 256 more than it, and at most 512.
 fn range_between(set: &ByteSet, start: u16, stop: u16) -> ByteRange
     requires ordered { start ≤ stop }
     requires within { stop ≤ start + 256 }
@@ -108,7 +134,8 @@ fn marks_in(range: ByteRange, lanes: u8x32) -> u8x32
 
 impl RangePair {
     /// The least ranges with each byte of a set from `start` on, up to before `cut`, and from there on, up to before
-    /// `stop`; 256 is 0 again, and so on.
+    /// `stop`, where 256 is 0 again, and so on. The three are in their order, `stop` is at most 256 more than `start`,
+    /// and at most 512.
     fn between(set: &ByteSet, start: u16, cut: u16, stop: u16) -> RangePair
         requires ordered { (start ≤ cut) × (cut ≤ stop) }
         requires within { stop ≤ start + 256 }
@@ -139,21 +166,22 @@ impl RangePair {
 }
 
 impl Cover {
-    /// The ranges between the two longest gaps of a set.
+    /// The ranges between the two likeliest gaps of a set, so that few bytes are to be expected in them that aren't in
+    /// the set.
     pub fn by_two(set: &ByteSet) -> Cover
         ensures { (b : ℕ) → b < 256 → bytes set.now b ≡ true → covered result b ≡ true }
     {
-        let gap = size_of_gaps(set, 2);
+        let gap = chance_of_gaps(set, 2);
         let first = next_cut(set, 0, gap);
         let second = next_cut(set, (first + 1).min(256), gap);
         Cover::Two(RangePair::between(set, first, second, first + 256))
     }
 
-    /// The ranges between the four longest gaps of a set.
+    /// The ranges between the four likeliest gaps of a set.
     pub fn by_four(set: &ByteSet) -> Cover
         ensures { (b : ℕ) → b < 256 → bytes set.now b ≡ true → covered result b ≡ true }
     {
-        let gap = size_of_gaps(set, 4);
+        let gap = chance_of_gaps(set, 4);
         let first = next_cut(set, 0, gap);
         let second = next_cut(set, (first + 1).min(256), gap);
         let third = next_cut(set, (second + 1).min(256), gap);

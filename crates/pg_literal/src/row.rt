@@ -22,6 +22,8 @@ pub(crate) struct Expansion {
     pub most: usize,
     /// A part of so many sets is wide enough: no wider one becomes several texts.
     pub plenty: usize,
+    /// Whether the rows of alternatives are united to one, where they have as many sets.
+    pub unites: bool,
 }
 
 /// How well a part of a row serves.

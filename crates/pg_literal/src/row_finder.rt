@@ -16,6 +16,7 @@ use crate::covered::{CoveredSet, OnlyByte, covered_at, only_byte_at, rarest_two}
 use crate::known::{MatchFacts, with_tree};
 use crate::literal::{Literal, wider};
 use crate::ranges::{LANES, uncovered_places};
+use crate::row::Expansion;
 use crate::row_outcome::RowOutcome;
 use memchr::memchr;
 use pg_bytes::ByteSet;
@@ -124,7 +125,11 @@ fn rarer_row<A: Allocator + Copy>(
     ensures sure { IfOk result (λ row. IsTrue row.is_sure
         → IsSureRow (pattern tree.now) (row_of row.sets.items)) }
 {
-    let known = with_tree(alloc, tree, wider(fold, 1), MatchFacts::nothing(alloc))?;
+    let expansion = Expansion {
+        unites: true,
+        ..wider(fold, 1)
+    };
+    let known = with_tree(alloc, tree, expansion, MatchFacts::nothing(alloc))?;
     if chance_of(&known.head) < chance_of(&known.best) {
         Ok(NeededRow {
             sets: known.head,

@@ -2,6 +2,8 @@ use Rattle.std.proofs.Common.{inl, inr, rules}
 use Rattle.pg_pattern.specs.declared.tree.Tree.{the_lemmas}
 use Rattle.pg_pattern.proofs.PatternLemmas.{pattern-empty, pattern-set, pattern-begin, pattern-end}
 use Rattle.pg_pattern.proofs.PatternLemmas.{pattern-cat, pattern-alt, pattern-rep}
+use Rattle.pg_literal.specs.Rows.{row_along}
+use Rattle.pg_literal.proofs.FrontLemmas.{extends_front}
 use Rattle.pg_literal.proofs.KnownLemmas.{extends_empty, extends_as_set, extends_cat, extends_alt, extends_rep}
 use Rattle.pg_literal.proofs.known.+with_tree.Goals as goal
 
@@ -35,6 +37,13 @@ returns-in-Some g t c = λ fold.
     let same = rw (pattern-alt _ _ _ c.in-Alt.is) at c.in-Some.ensures in
     c.loop-tree.invariant.whole fold _
     (rw (pattern-alt _ _ _ c.in-Alt.is) (extends_as_set fold _ _ _ _ _ same (c.in_ok-known-in-Alt.ensures fold)))
+
+pub returns-in-Some-2 : goal.returns-in-Some-2
+returns-in-Some-2 g t c = λ fold.
+    let is = rw c.in-Some-2.is at c.in_ok-row-in-Alt.ensures in
+    let row = rw (pattern-alt _ _ _ c.in-Alt.is) at is in
+    let front = extends_front fold _ _ _ _ (row_along c.in-Some-2.row.items) row c.in_ok-known-in-Alt-2.ensures in
+    c.loop-tree.invariant.whole fold _ (rw (pattern-alt _ _ _ c.in-Alt.is) front)
 
 pub returns-in-Alt : goal.returns-in-Alt
 returns-in-Alt g t c = λ fold.
