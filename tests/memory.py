@@ -31,9 +31,6 @@ MOST = 20_000
 # A run that has not ended after so many seconds has failed.
 LIMIT = 20
 
-# So often a line is run where nothing is refused.
-WHOLE_RUNS = 4
-
 # Standard input is the file `row`. No thread starts: there are too few bytes, or what was read may be enough.
 ALONE = """\
 -F x row
@@ -169,11 +166,8 @@ class Runs:
         return Outcome(ran.returncode, ran.stdout, ran.stderr, asked)
 
     def whole(self, line):
-        """What a line gives where nothing is refused: of some runs the one that asked for the least, since one that was
-        held up for a moment has its next blocks wait for a round, and asks for more."""
-        ran = [self.run(line, "REFUSE_REQUEST", 0) for _ in range(WHOLE_RUNS)]
-        lost = [it for it in ran if it.asked is None]
-        return lost[0] if lost else min(ran, key=lambda it: it.asked)
+        """What a line gives where nothing is refused."""
+        return self.run(line, "REFUSE_REQUEST", 0)
 
 
 def is_right(found, whole):

@@ -2,8 +2,14 @@
 
 use std::time::{Clock, Duration};
 
-/// So many bytes are measured before a verdict, or so many nanoseconds.
+/// So many bytes are measured before a verdict.
 const MEASURED: u64 = 1_048_576;
+
+/// Where so many bytes took long, the verdict comes at once. That fewer did says nothing: a thread may be held up.
+const SOONER: u64 = 65_536;
+
+/// So many nanoseconds are long.
+const LONG: u64 = 1_000_000;
 
 /// A search that takes more than a nanosecond a byte is slow: a faster one was seen to gain nothing by several threads.
 const BYTES_A_NANO: u64 = 1;
@@ -81,7 +87,7 @@ impl Pace {
     fn with(self, bytes: u64, nanos: u64) -> Pace {
         let bytes = self.bytes.saturating_add(bytes);
         let nanos = self.nanos.saturating_add(nanos);
-        if bytes < MEASURED && nanos < MEASURED {
+        if bytes < MEASURED && (bytes < SOONER || nanos < LONG) {
             return Pace {
                 bytes,
                 nanos,
