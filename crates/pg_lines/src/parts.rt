@@ -16,7 +16,8 @@ use pg_prefilter::{BlockStrings, NextString};
 use pg_selection::Part;
 use std::alloc::{AllocError, Allocator};
 
-/// Of a line that stands at a place in its block the next match from a place of the line on, as far as strings tell.
+/// Of a line that stands at a place in its block the next match from a place of the line on, or from its end, as far as
+/// the query's strings tell.
 pub(crate) fn next_by_strings<A: Allocator>(
     query: &Query<A>,
     strings: &BlockStrings<'_, A>,

@@ -149,8 +149,8 @@ impl<A: Allocator> Query<A> {
         self.prefilter.literals()
     }
 
-    /// Whether a line of some bytes may have a hit. They are given as literals are looked for in them: where case is
-    /// folded, in lower case.
+    /// Whether a line of some bytes, at least one, may have a hit. They are given as literals are looked for in them:
+    /// where case is folded, in lower case.
     fn may_hold(&self, searched: &[u8]) -> bool
         requires { 0 < length searched.now }
         ensures { result ≡ false → (bytes : List ℕ) → searched.now ≡ as_searched self.now.text.fold bytes

@@ -216,7 +216,8 @@ fn with_one_in_vain<'n, A: Allocator>(
     }
 }
 
-/// The first line at or behind a place of a block, or its end, that holds one of the needles, which aren't given up.
+/// The first line at or behind a place of a block, or its end, that holds one of the needles. They are the query's, as
+/// they are from that place on, some of them, and not given up.
 fn next_candidate<'n, A: Allocator>(
     query: &Query<A>,
     needles: &mut Needles<'n, A>,

@@ -51,9 +51,10 @@ impl<A: Allocator> Prefilter<A> {
         self.literal_set.is_some() || !self.literals.is_empty()
     }
 
-    /// Whether a line of some bytes, at least one, may have a hit, as the query's literals tell: false where no literal
-    /// stands among them. They are given as literals are looked for in them: where case is folded, in lower case. Where
-    /// there are no literals, and where to look for many of them takes too long, the answer is true.
+    /// Whether a line of some bytes, at least one, may have a hit, as the literals tell: false where none of them
+    /// stands among the bytes. The bytes are given as literals are looked for in them: where case is folded, in lower
+    /// case. Where there are no literals, and where to look for many of them takes too long, the answer is true. The
+    /// text is the one that the prefilter was found in.
     pub fn may_hold(&self, text: &QueryText<A>, searched: &[u8]) -> bool
         requires found { IsPrefilterOf text.now self.now }
         requires bytes { 0 < length searched.now }

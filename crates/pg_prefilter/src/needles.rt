@@ -44,6 +44,7 @@ impl<'n, A: Allocator> Drop for Needles<'n, A> {
 
 impl<'n, A: Allocator> Needles<'n, A> {
     /// A row, if there is one, else the needles of a set of literals, if there is one, else those of a few literals.
+    /// They are needles of the text in which these were found. A refused request for memory is the only error.
     pub fn new(
         alloc: A,
         literals: &'n [Literal<A>],
@@ -88,7 +89,7 @@ impl<'n, A: Allocator> Needles<'n, A> {
     }
 
     /// Gives them up, since they stood in too many lines in vain: the row of the query, if it has one, takes the place
-    /// of literals. Tells whether it does.
+    /// of literals. Tells whether it does. The row is one that was found in the query's text.
     pub fn give_up(&mut self, row: Option<&'n RowFinder<A>>) -> bool
         ensures needles { (text : SearchText) (bytes : List ℕ) (at : ℕ)
             → IfSome row.entry (λ row. IsRowOf text row.now) → AreNeedles text bytes at self.new }
@@ -113,7 +114,8 @@ impl<'n, A: Allocator> Needles<'n, A> {
     }
 
     /// The first line at or behind a place of a block, or its end, that holds one of the literals, or the row, that
-    /// they are of. They are needles of the query in the block, some of them, and not given up.
+    /// they are of. They are needles of the text in the block, as they are from that place on, some of them, and not
+    /// given up.
     pub fn next_line(&mut self, text: &QueryText<A>, bytes: &[u8], at: usize) -> NextLine
         requires at { at ≤ length bytes.now }
         requires needles { AreNeedles text.now bytes.now at self.old }

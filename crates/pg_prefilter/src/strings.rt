@@ -154,7 +154,8 @@ fn next_suffix<A: Allocator>(suffix: &LineSuffix<A>, line: &[u8], from: usize) -
 
 /// The text that each match of a query begins with, if it has but this literal, and either parts of lines are asked for
 /// or the rest of a line tells whether it has a hit, since what stands before it is ignored. Else a line is judged
-/// faster by the automaton alone, which needn't find where a match ends.
+/// faster by the automaton alone, which needn't find where a match ends. The literals are those that were found in the
+/// text.
 pub fn only_head<'l, A: Allocator>(
     text: &QueryText<A>,
     literals: &'l [Literal<A>],
@@ -222,7 +223,8 @@ impl<'s, A: Allocator> BlockStrings<'s, A> {
         }
     }
 
-    /// Of a line that stands at a place of the block the next match from a place of the line on.
+    /// Of a line that stands at a place of the block the next match from a place of the line on, or from its end. The
+    /// strings are the text's, and the block's bytes are those that they were made with.
     pub fn next_part(&self, text: &QueryText<A>, line: &[u8], at: usize, from: usize) -> NextString
         requires line { JudgesLine text.now self.now line.now at }
         requires from { from ≤ length line.now }
