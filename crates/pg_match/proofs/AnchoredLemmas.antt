@@ -307,6 +307,10 @@ module _ (m : Nfa) (t : Remembered) (is : IsAnchoredMemoryOf m t) where
       stands = stands_behind m l s p (get_or l p 0) (In t (at / 256)) (In t (v / 256)) (slice_get-get_or l p 0 lt) lt
           f.stands step.2
 
+      -- the row that the byte leads to
+      pub behind_byte : (v / 256 ≤ t.count) × StandsFrom m l s (p + 1) (In t (v / 256))
+      behind_byte = (step.0.known, stands)
+
       pub in_flags : v / 256 < length t.fresh
       in_flags = omega (arith, in_rows v step.0, is.shape.fresh_size)
 

@@ -9,6 +9,7 @@ use Rattle.std.proofs.lemmas.List.{get_or_read, take_all}
 use Rattle.std.proofs.lemmas.Option.{slice_get-get_or}
 use Rattle.std.proofs.lemmas.Bool.{cases_eq, cases_lt}
 use Rattle.pg_match.specs.Automata.{Nfa, IsRunnable}
+use Rattle.pg_match.specs.Closures.{AllBelow}
 use Rattle.pg_match.specs.StateSets.{Members, mark, listed, IsGood, Inserted}
 use Rattle.pg_match.specs.Steps.{Has, Goes, Starts, HitBefore, AnswersEnd, ReadsNone}
 use Rattle.pg_match.specs.Stands.{Stands, HasRun}
@@ -44,6 +45,16 @@ loading_next mem r old s u k x a ge is ins = record {
     | inr other ↦ let h = a.all j le (omega arith) in let e = ins.kept (slice_index mem.pool j) h in omega arith
   ];
 }
+
+-- a state more, with mark 1
+pub ones_more : (old new : Members) (x : ℕ) → Inserted old new x 1 → AllBelow old 1 → AllBelow new 1
+ones_more old new x ins below q = elim (cases_lt 0 (mark old q)) [
+  | inl before ↦ omega (arith, ins.kept q before, below q)
+  | inr none ↦ elim (cases_lt 0 (mark new q)) [
+    | inl some ↦ omega (arith, (ins.fresh q (omega arith) some).1)
+    | inr absent ↦ omega arith
+  ]
+]
 
 -- the first k states were copied
 pub record Copying (old new : Remembered) (s : Members) (start k : ℕ) : Type 0 where

@@ -9,17 +9,18 @@ use Rattle.pg_pattern.specs.Bounds.{may_end}
 use Rattle.std.proofs.Math.Nat.{add-mul, mul-le-mul_left}
 use Rattle.pg_pattern.specs.Bounds.{MayBegin, MayEnd}
 use Rattle.pg_match.specs.Anchored.{NothingBefore, StandsFrom, IsLastEnd, Follows, IsAnchoredRun, IsAlone}
-use Rattle.pg_match.specs.Automata.{Nfa, IsRunnable}
+use Rattle.pg_match.specs.Automata.{Nfa, Runs, IsRunnable}
 use Rattle.pg_match.specs.Closures.{Leads}
 use Rattle.pg_match.specs.Memories.{Remembered, In, Same, Keeps}
 use Rattle.pg_match.specs.Closures.{AllBelow}
 use Rattle.pg_match.specs.Searches.{Alive, IsBest, ending, limit_of, start_bound}
 use Rattle.pg_match.specs.Starts.{GoesOn}
-use Rattle.pg_match.specs.StateSets.{Members, mark}
+use Rattle.pg_match.specs.StateSets.{Members, mark, listed, IsGood}
 use Rattle.pg_match.specs.Steps.{Has}
 use Rattle.pg_match.proofs.AnchoredLemmas.{gone_alone, stands_behind, not_found, end_found}
 use Rattle.pg_match.proofs.CacheLemmas.{at_row, row_of}
 use Rattle.pg_match.proofs.SearchLemmas.{start_all, start_few}
+use Rattle.pg_match.proofs.StandsLemmas.{begins_first}
 
 module _ (m : Nfa) (l : List ℕ) (from p : ℕ) (now : Members) (b : ℕ × ℕ)
     (a : Alive m.states l m.start (MayBegin m.bounds l) from (start_bound p) p now (Some b))
@@ -157,6 +158,44 @@ module _ (m : Nfa) (l : List ℕ) (s p last b : ℕ) (seeds : List ℕ) (S U : �
     stands = stands_on;
     found = end_found m l s is_m p U stands_on t.onward h may;
   }
+
+-- behind a byte up to which none of the runs has ended where it may
+module _ (m : Nfa) (l : List ℕ) (s p b : ℕ) (seeds : List ℕ) (S U : ℕ → Type 0) (is_m : IsRunnable m)
+    (at : StandsFrom m l s p S) (none_yet : IsLastEnd m l s p None) (later : s ≤ p) (is : slice_get l p ≡ Some b)
+    (lt : p < length l) (goes : GoesOn m.states seeds b (IsTrue false) S U) where
+  behind : StandsFrom m l s (p + 1) U
+  behind = stands_behind m l s p b S U is lt at (gone_alone m.states seeds b S U goes)
+
+  pub none_on : (U 0 → MayEnd m.bounds l (p + 1) → ⊥) → StandsFrom m l s (p + 1) U × IsLastEnd m l s (p + 1) None
+  none_on refused = (behind, not_found m l s is_m p None U behind refused none_yet)
+
+  pub first_on : MayBegin m.bounds l s → U 0 → MayEnd m.bounds l (p + 1) → IsAnchoredRun m l s (p + 1) (p + 1) U
+  first_on begins h may = record {
+    begins = begins;
+    onward = omega (arith, later);
+    within = omega arith;
+    stands = behind;
+    found = end_found m l s is_m p U behind later h may;
+  }
+
+-- the set behind a line's first byte of the runs that began there is that of a search from there
+pub alive_second : (m : Nfa) (l : List ℕ) (now : Members) (S : ℕ → Type 0) → Same S (Has now) → IsGood now
+    → length now.marks ≡ length m.states → AllBelow now 1 → 1 < length l → StandsFrom m l 0 1 S
+    → Alive m.states l m.start (MayBegin m.bounds l) 0 (start_bound 1) 1 now None
+alive_second m l now S same good size below more at =
+    let there = stands_same m l 0 1 S (Has now) same at in
+    record {
+      good = good;
+      size = size;
+      closed = λ q h r edge. (there.closed more q r h edge, omega (arith, below r, h));
+      ordered = λ j k le lt. omega (arith, below (listed now j), good.is_in k lt);
+      sound = λ q h.
+          (0, omega (arith, below q, h), omega arith, omega arith, begins_first m.bounds l, there.sound q h);
+      complete = λ s n j ge lt begins early run past.
+          let first : s ≡ 0 = omega arith in
+          let c = there.complete n j (subst (λ v. Runs m.states l n m.start v j) first run) past in
+          (c.0, c.1, c.2, omega (arith, below c.0), c.3);
+    }
 
 -- the marks in the set of a place are not beyond it
 pub alive_below : (m : Nfa) (l : List ℕ) (B : ℕ → Type 0) (from p : ℕ) (now : Members) (best : Option (ℕ × ℕ))

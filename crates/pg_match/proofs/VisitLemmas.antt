@@ -5,18 +5,28 @@ use Rattle.std.proofs.Math.Nat.{add-mul, mul-le-mul_left}
 pub visits_small : (p n v : ℕ) → v ≤ (p + 1) * n → p ≤ 2 ^ 30 → n < 2 ^ 64 → v < 2 ^ 98
 visits_small p n v le short few = let less : n ≤ 2 ^ 64 = omega arith in omega (arith, mul-le-mul_left (p + 1) less)
 
+-- what was visited at some places, and at some others since
+pub visits_joined : (d e f n u w : ℕ) → u ≤ d * n → w ≤ u + e * n → d + e ≤ f → w ≤ f * n
+visits_joined d e f n u w first then less = omega (arith, first, then, add-mul d e n, mul-le-mul_left n less)
+
+-- what was visited, with visits to spare
+pub visits_spare : (p n v : ℕ) → v + 4 * n ≤ p * n → p ≤ 2 ^ 30 → n < 2 ^ 64 → v < 2 ^ 95
+visits_spare p n v spare short few = let less : n ≤ 2 ^ 64 = omega arith in omega (arith, spare, mul-le-mul_left p less)
+
+-- what was visited up to a place, and at each of some others
+pub visits_until : (at p n v u : ℕ) → v ≤ (at + 1) * n → u ≤ v + (p - at) * n → at ≤ p → p ≤ 2 ^ 30 → n < 2 ^ 64
+    → u < 2 ^ 98
+visits_until at p n v u before since later short few =
+    let turns : at + 1 + (p - at) ≡ p + 1 = omega arith in
+    visits_small p n u (subst (λ k. u ≤ k * n) turns (omega (arith, add-mul (at + 1) (p - at) n, before, since))) short
+    few
+
 -- what was visited before, and at some places since
 pub visits_since : (k n u v : ℕ) → v ≤ u + k * n → u < 2 ^ 96 → k ≤ 2 ^ 30 → n < 2 ^ 64 → v < 2 ^ 97
 visits_since k n u v le before short few = let less : n ≤ 2 ^ 64 = omega arith in omega (arith, mul-le-mul_left k less)
 
 pub visits_later : (p h n v : ℕ) → v ≤ (p + 1) * n → p ≤ h → v ≤ (h + 1) * n
 visits_later p h n v le later = let more : p + 1 ≤ h + 1 = omega arith in omega (arith, mul-le-mul_left n more)
-
--- what a search from a place may visit, and as many visits a state as bytes stand before the place
-pub visits_both : (p l n v w : ℕ) → p ≤ l → v ≤ (l - p + 1) * n → w ≤ p * n → v + w ≤ (l + 1) * n
-visits_both p l n v w within behind before =
-    let turns : p + (l - p + 1) ≡ l + 1 = omega arith in
-    subst (λ k. v + w ≤ k * n) turns (omega (arith, add-mul p (l - p + 1) n, before, behind))
 
 pub visits_on : (p h n v w : ℕ) → v ≤ (p + 1) * n → p ≤ h → w ≤ v + n → w ≤ (h + 1 + 1) * n
 visits_on p h n v w le later add = let more : p + 1 ≤ h + 1 = omega arith in omega (arith, mul-le-mul_left n more)

@@ -106,3 +106,17 @@ pub record IsAnchoredRun (m : Nfa) (l : List ℕ) (s p last : ℕ) (S : ℕ → 
 abbrev pub IsAlone : Nfa → List ℕ → ℕ → ℕ → (ℕ → Type 0) → Option (ℕ × ℕ) → Type 0
 IsAlone m l from p S None = ⊥
 IsAlone m l from p S (Some b) = (from ≤ b.0) × NothingBefore m l from b.0 × IsAnchoredRun m l b.0 p b.1 S
+
+-- where a search begins at the first place of a line of more than one byte, the row is the set behind the first byte of
+-- the runs that begin there
+pub record IsSecondRow (m : Nfa) (t : Remembered) (l : List ℕ) (from row : ℕ) : Type 0 where
+  pub first : from ≡ 0
+  pub more : 1 < length l
+  pub known : row ≤ t.count
+  pub stands : StandsFrom m l 0 1 (In t row)
+
+-- Of n + 1 visits a state so many are left beside those of a search of n bytes from a place on: one for each place up to
+-- that one, or, if a line's second set is known, for the line's first two.
+abbrev pub spared : ℕ → ℕ
+spared zero = 2
+spared (suc s) = s + 2

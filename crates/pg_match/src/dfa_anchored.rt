@@ -1,6 +1,7 @@
 //! The longest match from a known start, by the remembered sets of the runs that begin there.
 ghost use Rattle.std.specs.Prelude.{◌≡◌, ◌+◌, ◌*◌, ◌<◌, ◌≤◌, ◌^◌, length, IfSome, IsTrue, Some};
 ghost use Rattle.pg_match.specs.Anchored.{IsAnchoredMemoryOf, start_row, NothingBefore, TellsKnownSpan, known_span_of};
+ghost use Rattle.pg_match.specs.Anchored.{Follows};
 ghost use Rattle.pg_pattern.specs.Bounds.{MayBegin, MayEnd};
 ghost use Rattle.pg_match.specs.Memories.{In, IsAtRow, Keeps, Same};
 ghost use Rattle.pg_match.specs.Searches.{IsBest};
@@ -40,7 +41,7 @@ pub(crate) enum KnownSpan {
 }
 
 /// The row of the set of a start at a place.
-fn start_row(start: usize) -> usize
+pub(crate) fn start_row(start: usize) -> usize
     ensures { result ≡ start_row start }
 {
     if start == 0 { 2 } else { 1 }
@@ -57,6 +58,39 @@ fn outcome_at(last: Option<usize>, place: usize) -> KnownSpan
 }
 
 impl<A: Allocator> Automaton<A> {
+    /// Follows the runs that begin at a place by what is remembered of them, as far as that goes. Answers the row and
+    /// the place that it comes to, and where the last of the spans ends that end up to there. The row of the start is
+    /// known.
+    #[inline(always)]
+    pub(crate) fn follow_start(
+        &self,
+        memory: &Cache<A>,
+        line: &[u8],
+        start: usize,
+    ) -> (u32, usize, Option<usize>)
+        requires built { IsBuilt self.now }
+        requires memory { IsAnchoredMemoryOf (nfa self.now) (remembered memory.now) }
+        requires start_in { start < length line.now }
+        requires known { start_row start ≤ memory.now.count }
+        ensures { Follows (nfa self.now) (remembered memory.now) line.now start result.1 result.0 result.2 }
+    {
+        let mut state = 256 * start_row(start) as u32;
+        let mut place = start;
+        let mut last = None;
+        while place < line.len() {
+            let next = memory.steps[state as usize + line[place] as usize];
+            if next < 256 {
+                break;
+            }
+            state = next;
+            place += 1;
+            if memory.fresh[(next / 256) as usize] && self.bounds.may_end(line, place) {
+                last = Some(place);
+            }
+        }
+        (state, place, last)
+    }
+
     /// What is remembered of the spans that begin at a place.
     pub(crate) fn longest(&self, memory: &Cache<A>, line: &[u8], start: usize) -> KnownSpan
         requires built { IsBuilt self.now }
@@ -64,30 +98,20 @@ impl<A: Allocator> Automaton<A> {
         requires start_in { start ≤ length line.now }
         ensures { TellsKnownSpan (nfa self.now) line.now start result }
     {
-        let row = start_row(start);
-        if start >= line.len() || row > memory.count {
+        if start >= line.len() || start_row(start) > memory.count {
             return KnownSpan::Unknown;
         }
         if !self.bounds.may_begin(line, start) {
             return KnownSpan::Nothing(start);
         }
-        let mut state = 256 * row as u32;
-        let mut place = start;
-        let mut last = None;
-        while place < line.len() {
+        let (state, place, last) = self.follow_start(memory, line, start);
+        if place < line.len() {
             let next = memory.steps[state as usize + line[place] as usize];
-            if next < 256 {
-                return if next == DEAD {
-                    outcome_at(last, place)
-                } else {
-                    KnownSpan::Unknown
-                };
-            }
-            state = next;
-            place += 1;
-            if memory.fresh[(next / 256) as usize] && self.bounds.may_end(line, place) {
-                last = Some(place);
-            }
+            return if next == DEAD {
+                outcome_at(last, place)
+            } else {
+                KnownSpan::Unknown
+            };
         }
         match memory.ends[(state / 256) as usize] {
             Some(is_end) => if is_end {
@@ -449,9 +473,7 @@ impl<A: Allocator> Automaton<A> {
         if let Some(end) = found {
             return Some((place, end));
         }
-        let learned = sets.visits;
         let best = self.find_long(sets, anchored, line, place);
-        sets.visits += learned;
         self.study_both(sets, anchored, line, place, best);
         memory.leave_room(anchored.count);
         best

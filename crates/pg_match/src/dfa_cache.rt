@@ -1,6 +1,7 @@
 //! Remembered sets of states.
 ghost use Rattle.std.specs.Prelude.{◌≡◌, ℕ, ◌+◌, ◌*◌, ◌<◌, ◌≤◌, length, IsTrue, false, IfOk};
 ghost use Rattle.pg_match.specs.Automata.{Nfa};
+ghost use Rattle.pg_match.specs.Closures.{AllBelow};
 ghost use Rattle.pg_match.specs.StateSets.{IsGood};
 ghost use Rattle.pg_match.specs.Steps.{Has};
 ghost use Rattle.pg_match.specs.Memories.{IsShape, IsMemoryOf, In, fresh_at, Same, Grown, Marked, MarkedEnd, IsBlank};
@@ -152,6 +153,7 @@ impl<A: Allocator> Cache<A> {
         ensures good { IsGood (members set.new) }
         ensures size { length set.new.marks.items ≡ length set.old.marks.items }
         ensures same { Same (In (remembered self.now) row) (Has (members set.new)) }
+        ensures ones { AllBelow (members set.new) 1 }
         ensures added { (members set.new).added ≡ (members set.old).added }
     {
         set.clear();

@@ -22,6 +22,7 @@ mod dfa_cursor;
 mod dfa_line;
 mod dfa_search;
 mod dfa_starts;
+mod first_start;
 mod machine;
 mod nfa_search;
 mod search;

@@ -92,20 +92,22 @@ fn limit(best: Option<(usize, usize)>) -> u32
 impl<A: Allocator> Automaton<A> {
     /// Begins a search at a place: takes all states out, and adds the start if a line begins there. Starts at other
     /// places are added behind their first byte.
-    fn enter(&self, sets: &mut StateSets<A>, line: &[u8], from: usize)
+    pub(crate) fn enter(&self, sets: &mut StateSets<A>, line: &[u8], from: usize)
         requires built { IsBuilt self.now }
         requires room { HaveRoom (buffers sets.old) (length self.now.states.items) }
+        requires visits { sets.old.visits < 2 ^ 98 }
         ensures alive { Alive self.now.states.items line.now self.now.start (MayBegin self.now.bounds line.now) from
             (start_bound from) from (members sets.new.current) None }
         ensures room { HaveRoom (buffers sets.new) (length self.now.states.items) }
-        ensures visits { sets.new.visits ≡ sets.new.current.len }
-        ensures told { added sets.new ≡ added sets.old + sets.new.visits }
+        ensures visits { sets.new.visits ≤ sets.old.visits + length self.now.states.items }
+        ensures inside { 0 < from → sets.new.visits ≡ sets.old.visits }
+        ensures told { Tells sets.old sets.new }
     {
         sets.current.clear();
         if from == 0 {
             reach(&self.states, line, 0, &mut sets.current, self.start, 1);
+            sets.visits += sets.current.len as u128;
         }
-        sets.visits = sets.current.len as u128;
     }
 
     /// The mark of the match that ends at `place`, or 0.
@@ -183,57 +185,62 @@ impl<A: Allocator> Automaton<A> {
         sets.visits += sets.current.len as u128;
     }
 
-    /// Whether all runs in a set began where the best span so far does, and so few states were visited since a search
-    /// began, so many bytes before, that four visits a state are to spare.
+    /// Whether all runs in the set of a place began where the best span so far does, and so few states were visited
+    /// that four visits a state are to spare of as many as bytes stand before the place.
     #[inline(always)]
-    fn is_alone(&self, sets: &StateSets<A>, best: Option<(usize, usize)>, passed: usize) -> bool
+    fn is_alone(&self, sets: &StateSets<A>, best: Option<(usize, usize)>, place: usize) -> bool
         requires good { IsGood (members sets.now.current) }
         requires ordered { IsOrdered (members sets.now.current) }
         requires limit { limit_of best < 2 ^ 32 }
-        requires short { passed ≤ 2 ^ 30 }
+        requires short { place ≤ 2 ^ 30 }
         requires visits { sets.now.visits < 2 ^ 100 }
         ensures alone { IsTrue result → (is_some best ≡ true) × ((q : ℕ) → 0 < mark (members sets.now.current) q
             → mark (members sets.now.current) q ≡ limit_of best) }
         ensures spare { IsTrue result
-            → sets.now.visits + 4 * length self.now.states.items ≤ passed * length self.now.states.items }
+            → sets.now.visits + 4 * length self.now.states.items ≤ place * length self.now.states.items }
     {
         let size = self.states.len() as u128;
         best.is_some()
             && sets.current.has_only(limit(best))
-            && sets.visits + 4 * size <= passed as u128 * size
+            && sets.visits + 4 * size <= place as u128 * size
     }
 
     /// The best span from a place on, by runs of the automaton, unless the runs of one start alone are left at a place
-    /// before `far`, and there are visits to spare: then the best one so far, and the place.
+    /// before `far`, and there are visits to spare: then the best one so far, and the place. The set at hand is that of
+    /// the place `at`, where no span can have ended yet: `from`, or the next one.
     pub(crate) fn find_until(
         &self,
         sets: &mut StateSets<A>,
         line: &[u8],
         from: usize,
+        at: usize,
         far: usize,
     ) -> (Option<(usize, usize)>, Option<usize>)
         requires built { IsBuilt self.now }
         requires room { HaveRoom (buffers sets.old) (length self.now.states.items) }
         requires short { length line.now ≤ 2 ^ 30 }
-        requires from_in { from ≤ length line.now }
+        requires place { (from ≤ at) × (at ≤ from + 1) × (at ≤ length line.now) }
+        requires alive { Alive self.now.states.items line.now self.now.start (MayBegin self.now.bounds line.now) from
+            (start_bound at) at (members sets.old.current) None }
+        requires visits { sets.old.visits ≤ (at + 1) * length self.now.states.items }
         ensures room { HaveRoom (buffers sets.new) (length self.now.states.items) }
         ensures best { IfNone result.1 (IsBest self.now.states.items line.now self.now.start
             (MayBegin self.now.bounds line.now) (MayEnd self.now.bounds line.now) from (length line.now + 1) result.0) }
         ensures left { IfSome result.1 (λ place. (place < far)
             × IsAlone (nfa self.now) line.now from place (Has (members sets.new.current)) result.0) }
-        ensures visits { sets.new.visits ≤ (length line.now - from + 1) * length self.now.states.items }
+        ensures visits { sets.new.visits
+            ≤ sets.old.visits + (length line.now - at) * length self.now.states.items }
         ensures spare { IfSome result.1 (λ place. sets.new.visits + 4 * length self.now.states.items
-            ≤ (place - from) * length self.now.states.items) }
-        ensures told { added sets.new ≡ added sets.old + sets.new.visits }
+            ≤ place * length self.now.states.items) }
+        ensures told { Tells sets.old sets.new }
     {
-        self.enter(sets, line, from);
         let mut best = None;
-        for place in from..line.len() {
+        for place in at..line.len() {
             best = judge(place, self.ending(&sets.current, line, place), best);
             if best.is_some() && sets.current.is_over() {
                 return (best, None);
             }
-            if place < far && self.is_alone(sets, best, place - from) {
+            if place < far && self.is_alone(sets, best, place) {
                 return (best, Some(place));
             }
             self.advance(sets, line, place, best);
@@ -263,7 +270,9 @@ impl<A: Allocator> Automaton<A> {
         ensures visits { sets.new.visits ≤ (length line.now - from + 1) * length self.now.states.items }
         ensures told { added sets.new ≡ added sets.old + sets.new.visits }
     {
-        let (best, _) = self.find_until(sets, line, from, 0);
+        sets.visits = 0;
+        self.enter(sets, line, from);
+        let (best, _) = self.find_until(sets, line, from, from, 0);
         best
     }
 }

@@ -28,7 +28,12 @@ pub(crate) struct AnchoredRun {
 
 impl<A: Allocator> Automaton<A> {
     /// Where the longest span from a start ends, by the runs in the set of a place, without what is remembered.
-    fn finish_by_states(&self, sets: &mut StateSets<A>, line: &[u8], run: AnchoredRun) -> usize
+    pub(crate) fn finish_by_states(
+        &self,
+        sets: &mut StateSets<A>,
+        line: &[u8],
+        run: AnchoredRun,
+    ) -> usize
         requires built { IsBuilt self.now }
         requires room { HaveRoom (buffers sets.old) (length self.now.states.items) }
         requires short { length line.now ≤ 2 ^ 30 }
@@ -155,7 +160,7 @@ impl<A: Allocator> Automaton<A> {
     }
 
     /// Where the longest span from a start ends, from a row on. What isn't remembered is learned.
-    fn finish_by_cache(
+    pub(crate) fn finish_by_cache(
         &self,
         sets: &mut StateSets<A>,
         memory: &mut Cache<A>,
@@ -258,7 +263,7 @@ impl<A: Allocator> Automaton<A> {
     }
 
     /// Where the longest span from a start ends, by the runs in the set of a place.
-    fn finish_anchored(
+    pub(crate) fn finish_anchored(
         &self,
         sets: &mut StateSets<A>,
         memory: &mut Cache<A>,
@@ -283,36 +288,5 @@ impl<A: Allocator> Automaton<A> {
             Some(row) => self.finish_by_cache(sets, memory, line, row, run),
             None => self.finish_by_states(sets, line, run),
         }
-    }
-
-    /// The best span from a place on, by runs of the automaton until those of one start alone are left, and then by
-    /// what is remembered of them, where many bytes are still to come.
-    pub(crate) fn find_long(
-        &self,
-        sets: &mut StateSets<A>,
-        memory: &mut Cache<A>,
-        line: &[u8],
-        from: usize,
-    ) -> Option<(usize, usize)>
-        requires built { IsBuilt self.now }
-        requires room { HaveRoom (buffers sets.old) (length self.now.states.items) }
-        requires memory { IsAnchoredMemoryOf (nfa self.now) (remembered memory.old) }
-        requires short { length line.now ≤ 2 ^ 30 }
-        requires from_in { from ≤ length line.now }
-        ensures room { HaveRoom (buffers sets.new) (length self.now.states.items) }
-        ensures memory { IsAnchoredMemoryOf (nfa self.now) (remembered memory.new) }
-        ensures best { IsBest self.now.states.items line.now self.now.start (MayBegin self.now.bounds line.now)
-            (MayEnd self.now.bounds line.now) from (length line.now + 1) result }
-        ensures visits { sets.new.visits ≤ (length line.now - from + 1) * length self.now.states.items }
-        ensures told { added sets.new ≡ added sets.old + sets.new.visits }
-    {
-        let far = line.len().saturating_sub(LONG);
-        let (best, left) = self.find_until(sets, line, from, far);
-        let Some(place) = left else {
-            return best;
-        };
-        let (start, last) = best?;
-        let run = AnchoredRun { start, place, last };
-        Some((start, self.finish_anchored(sets, memory, line, run)))
     }
 }

@@ -4,7 +4,6 @@ use Rattle.pg_pattern.specs.Bounds.{MayBegin, MayEnd}
 use Rattle.pg_match.specs.Searches.{IsBest}
 use Rattle.pg_match.specs.Views.{nfa}
 use Rattle.pg_match.proofs.AnchoredLemmas.{best_behind}
-use Rattle.pg_match.proofs.VisitLemmas.{visits_both, visits_small}
 use Rattle.pg_match.proofs.automaton.Automaton.find_from.Goals as goal
 
 pub returns-in-Some-clause-best : goal.returns-in-Some-clause-best
@@ -29,21 +28,6 @@ returns-in-Some-found-clause-best g c =
     best_behind m line c.args.start t.result.0 best t.ensures.onward.0 t.ensures.nothing
     (best_behind m line t.result.0 b.result.0 best b.ensures.onward.0 b.ensures.nothing
     (subst (λ found. IfSome found Ends) c.in-Some-found.is b.ensures.best))
-
-pub overflow_add-sets : goal.overflow_add-sets
-overflow_add-sets g c =
-    let b = c.study_before-place in
-    let l = length c.args.line.now in
-    let size = c.args.self.now.states.ok.0 in
-    let both = visits_both b.result.0 l _ _ _ b.ensures.onward.1 c.find_long-best.ensures.visits b.ensures.visits in
-    let small = visits_small l (length c.args.self.now.states.items) _ both c.requires.short (omega arith) in
-    omega (arith, small)
-
-pub study_both-requires-clause-visits : goal.study_both-requires-clause-visits
-study_both-requires-clause-visits g c =
-    let b = c.study_before-place in
-    visits_both b.result.0 (length c.args.line.now) _ _ _ b.ensures.onward.1 c.find_long-best.ensures.visits
-    b.ensures.visits
 
 pub returns-clause-best : goal.returns-clause-best
 returns-clause-best g c =

@@ -1,10 +1,11 @@
-use Rattle.std.proofs.Common.{◌-◌, ◌+◌, ◌*◌, ◌<◌, ◌≤◌, Some, arith, length, subst}
+use Rattle.std.proofs.Common.{◌-◌, ◌+◌, ◌*◌, ◌<◌, ◌≤◌, ◌^◌, Some, arith, length, subst}
 use Rattle.std.specs.Option.{IfSome}
 use Rattle.pg_match.specs.Anchored.{IsAlone}
 use Rattle.pg_match.specs.Steps.{Has}
 use Rattle.pg_match.specs.Views.{nfa, members}
 use Rattle.pg_match.proofs.AnchoredLemmas.{best_behind}
 use Rattle.pg_match.proofs.SingleStartLemmas.{visits_spared}
+use Rattle.pg_match.proofs.VisitLemmas.{visits_spare}
 use Rattle.pg_match.proofs.automaton.Automaton.find_long.Goals as goal
 
 pub returns-clause-best : goal.returns-clause-best
@@ -13,24 +14,35 @@ returns-clause-best g c =
     let l = c.args.line.now in
     let S = Has (members c.find_until-best.new.sets.current) in
     let left = subst (λ o. IfSome o (λ place. (place < c.saturating_sub-far.result)
-    × IsAlone m l c.args.from place S c.find_until-best.result.0)) c.in-Some.is c.find_until-best.ensures.left in
-    let alone = subst (λ b. IsAlone m l c.args.from c.in-Some.place S b) c.in_ok-start.was left.1 in
+    × IsAlone m l c.args.from place S c.find_until-best.result.0)) c.in-Some-left.is c.find_until-best.ensures.left in
+    let alone = subst (λ b. IsAlone m l c.args.from c.in-Some-left.place S b) c.in_ok-start.was left.1 in
     best_behind m l c.args.from c.in_ok-start.start (Some (c.in_ok-start.start, c.finish_anchored.result)) alone.0
     alone.1 c.finish_anchored.ensures.longest
+
+pub finish_anchored-requires-clause-visits : goal.finish_anchored-requires-clause-visits
+finish_anchored-requires-clause-visits g c =
+    let n = length c.args.self.now.states.items in
+    let size = c.args.self.now.states.ok.0 in
+    let place = c.in-Some-left.place in
+    let S = Has (members c.find_until-best.new.sets.current) in
+    let left = subst (λ o. IfSome o (λ p. (p < c.saturating_sub-far.result)
+    × IsAlone (nfa c.args.self.now) c.args.line.now c.args.from p S c.find_until-best.result.0)) c.in-Some-left.is
+    c.find_until-best.ensures.left in
+    let spare = subst (λ o. IfSome o (λ p. c.find_until-best.new.sets.visits + 4 * n ≤ p * n)) c.in-Some-left.is
+    c.find_until-best.ensures.spare in
+    visits_spare place n _ spare (omega (arith, left.0, c.requires.short)) (omega arith)
 
 pub returns-clause-visits : goal.returns-clause-visits
 returns-clause-visits g c =
     let n = length c.args.self.now.states.items in
     let l = length c.args.line.now in
-    let place = c.in-Some.place in
+    let place = c.in-Some-left.place in
     let before = c.find_until-best.new.sets.visits in
     let S = Has (members c.find_until-best.new.sets.current) in
     let left = subst (λ o. IfSome o (λ p. (p < c.saturating_sub-far.result)
-    × IsAlone (nfa c.args.self.now) c.args.line.now c.args.from p S c.find_until-best.result.0)) c.in-Some.is
+    × IsAlone (nfa c.args.self.now) c.args.line.now c.args.from p S c.find_until-best.result.0)) c.in-Some-left.is
     c.find_until-best.ensures.left in
     let alone = subst (λ b. IsAlone (nfa c.args.self.now) c.args.line.now c.args.from place S b) c.in_ok-start.was
     left.1 in
-    let spare = subst (λ o. IfSome o (λ p. before + 4 * n ≤ (p - c.args.from) * n)) c.in-Some.is
-    c.find_until-best.ensures.spare in
-    visits_spared (place - c.args.from) (l - place) (l - c.args.from) n _ _ spare c.finish_anchored.ensures.visits
-    (omega (arith, alone.0, alone.2.onward, alone.2.within))
+    let spare = subst (λ o. IfSome o (λ p. before + 4 * n ≤ p * n)) c.in-Some-left.is c.find_until-best.ensures.spare in
+    visits_spared place (l - place) l n _ _ spare c.finish_anchored.ensures.visits (omega (arith, alone.2.within))

@@ -1,51 +1,55 @@
-use Rattle.std.proofs.Common.{◌≡◌, ◌<◌, ◌≤◌, ◌+◌, ◌-◌, ◌*◌, ◌^◌, ◌∙◌, ℕ, length, arith, subst, ap}
-use Rattle.std.proofs.Math.Nat.{mul-le-mul_left}
+use Rattle.std.proofs.Common.{◌≡◌, ◌<◌, ◌≤◌, ◌+◌, ◌-◌, ◌*◌, ◌^◌, ◌∙◌, ℕ, length, arith, refl, sym, subst, ap}
 use Rattle.pg_match.specs.Searches.{judged}
 use Rattle.pg_match.specs.Views.{nfa, buffers, members}
 use Rattle.pg_match.proofs.StateSetLemmas.{few}
 use Rattle.pg_pattern.specs.Bounds.{MayBegin}
 use Rattle.pg_match.proofs.SearchLemmas.{Searching, settled, searched, search_over}
-use Rattle.pg_match.proofs.SingleStartLemmas.{alive_below, left_alone}
+use Rattle.pg_match.proofs.SingleStartLemmas.{alive_below, left_alone, visits_less, visits_step}
+use Rattle.pg_match.proofs.VisitLemmas.{told_on, visits_until}
 use Rattle.pg_match.proofs.automaton.Automaton.find_until.Goals as goal
-
-visits_small : (p from n v : ℕ) → v ≤ (p - from + 1) * n → p ≤ 2 ^ 30 → n < 2 ^ 64 → v < 2 ^ 100
-visits_small p from n v le short few =
-    let less : n ≤ 2 ^ 64 = omega arith in
-    omega (arith, mul-le-mul_left (p - from + 1) less)
-
-visits_last : (p l from n v : ℕ) → p ≤ l → v ≤ (p - from + 1) * n → v ≤ (l - from + 1) * n
-visits_last p l from n v short le =
-    let turns : p - from + 1 ≤ l - from + 1 = omega arith in
-    omega (arith, mul-le-mul_left n turns)
 
 pub loop-place-init : goal.loop-place-init
 loop-place-init g c =
-    let room = c.enter.ensures.room in
-    let fewer = few (members c.enter.new.sets.current) room.now in
+    let room = c.requires.room in
     record {
       search = record {
-        alive = c.enter.ensures.alive;
+        alive = c.requires.alive;
         next = room.next;
         next_size = room.next_size;
-        so_far = λ s j ge lt past run. absurd (omega arith);
+        so_far = λ s j ge lt past run. absurd (omega (arith, c.requires.place));
       };
-      visits = omega (arith, c.enter.ensures.visits, fewer, room.now_size);
-      told = c.enter.ensures.told;
+      visits = omega arith;
+      told = refl;
     }
 
 pub advance-requires-clause-visits : goal.advance-requires-clause-visits
 advance-requires-clause-visits g c =
     let size = c.args.self.now.states.ok.0 in
-    visits_small c.loop-place.place c.args.from (length c.args.self.now.states.items) _ c.loop-place.invariant.visits
-    (omega arith) (omega arith)
+    let small = visits_until c.args.at c.loop-place.place (length c.args.self.now.states.items) _ _ c.requires.visits
+    c.loop-place.invariant.visits (omega arith) (omega (arith, c.requires.short)) (omega arith) in
+    omega (arith, small)
+
+pub is_alone-requires-clause-visits : goal.is_alone-requires-clause-visits
+is_alone-requires-clause-visits g c =
+    let size = c.args.self.now.states.ok.0 in
+    let small = visits_until c.args.at c.loop-place.place (length c.args.self.now.states.items) _ _ c.requires.visits
+    c.loop-place.invariant.visits (omega arith) (omega (arith, c.requires.short)) (omega arith) in
+    omega (arith, small)
 
 pub returns-then-is_over-clause-visits : goal.returns-then-is_over-clause-visits
 returns-then-is_over-clause-visits g c =
-    visits_last c.loop-place.place _ c.args.from _ _ (omega arith) c.loop-place.invariant.visits
+    visits_less (c.loop-place.place - c.args.at) (length c.args.line.now - c.args.at) _ _ _
+    c.loop-place.invariant.visits (omega arith)
+
+pub returns-then-is_alone-clause-visits : goal.returns-then-is_alone-clause-visits
+returns-then-is_alone-clause-visits g c =
+    visits_less (c.loop-place.place - c.args.at) (length c.args.line.now - c.args.at) _ _ _
+    c.loop-place.invariant.visits (omega arith)
 
 pub returns-clause-visits : goal.returns-clause-visits
 returns-clause-visits g c =
-    visits_last c.loop-place.place _ c.args.from _ _ (omega arith) c.loop-place.invariant.visits
+    visits_less (c.loop-place.place - c.args.at) (length c.args.line.now - c.args.at) _ _ _
+    c.loop-place.invariant.visits (omega arith)
 
 pub loop-place-preserved : goal.loop-place-preserved
 loop-place-preserved g c =
@@ -61,12 +65,14 @@ loop-place-preserved g c =
     (c.judge-best.ensures ∙ ap (λ k. judged p k c.loop-place.best) c.ending.ensures) in
     let room = c.advance.ensures.room in
     let fewer = few v.current room.now in
-    let turns : p + 1 - c.args.from + 1 ≡ p - c.args.from + 1 + 1 = omega arith in
-    let bound : (p + 1 - c.args.from + 1) * n ≡ (p - c.args.from + 1) * n + n = rw turns (omega arith) in
+    let turns : p + 1 - c.args.at ≡ p - c.args.at + 1 = omega arith in
+    let more : c.advance.new.sets.visits ≤ c.loop-place.sets.visits + n =
+    omega (arith, c.advance.ensures.visits, fewer, room.now_size) in
     record {
       search = searched m l c.args.from p s v best short (omega arith) both.0 both.1 c.advance.ensures.advanced room;
-      visits = omega (arith, bound, fewer, room.now_size, c.loop-place.invariant.visits, c.advance.ensures.visits);
-      told = omega (arith, c.loop-place.invariant.told, c.advance.ensures.told);
+      visits = subst (λ d. c.advance.new.sets.visits ≤ c.args.sets.now.visits + d * n) (sym turns)
+          (visits_step (p - c.args.at) n _ _ _ c.loop-place.invariant.visits more);
+      told = told_on _ _ _ _ _ _ c.loop-place.invariant.told c.advance.ensures.told;
     }
 
 pub returns-then-is_over-clause-best : goal.returns-then-is_over-clause-best

@@ -1,7 +1,7 @@
 use Rattle.std.proofs.Common.{◌∙◌, ◌<◌, ◌≤◌, ◌+◌, length, arith, sym, subst}
 use Rattle.std.proofs.lemmas.List.{get_or_read}
 use Rattle.std.specs.Prelude.{slice_index}
-use Rattle.pg_match.proofs.CacheLemmas.{loading_next}
+use Rattle.pg_match.proofs.CacheLemmas.{loading_next, ones_more}
 use Rattle.pg_match.specs.Views.{members, remembered}
 use Rattle.pg_match.proofs.dfa_cache.Cache.load.Goals as goal
 
@@ -39,6 +39,8 @@ loop-k-preserved g c =
       loading = loading_next mem row (members c.args.set.now) (members c.loop-k.set)
           (members c.fetch.new.self) c.loop-k.k c.index-in-loop-k.result.now c.loop-k.invariant.loading
           (omega arith) x c.fetch.ensures.inserted;
+      ones = ones_more (members c.loop-k.set) (members c.fetch.new.self) c.index-in-loop-k.result.now
+          c.fetch.ensures.inserted c.loop-k.invariant.ones;
       added = c.fetch.ensures.added ∙ c.loop-k.invariant.added;
     }
 
@@ -100,5 +102,6 @@ loop-k-init g c =
             absurd (omega arith);
         all = λ j ge lt. absurd (omega (arith, start));
       };
+      ones = λ q. omega (arith, c.clear.ensures.empty.1 q);
       added = c.clear.ensures.added;
     }

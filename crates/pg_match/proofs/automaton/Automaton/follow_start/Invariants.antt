@@ -1,7 +1,7 @@
 use Rattle.std.proofs.Common.{◌-◌, length}
 use Rattle.pg_match.specs.Views.{nfa, remembered}
 use Rattle.pg_match.specs.Anchored.{Follows}
-use Rattle.pg_match.proofs.automaton.Automaton.longest.Given as goal
+use Rattle.pg_match.proofs.automaton.Automaton.follow_start.Given as goal
 
 abbrev pub invariant-loop-place : goal.invariant-loop-place
 invariant-loop-place g l = Follows (nfa l.self) (remembered l.memory) l.line l.start l.place l.state l.last
