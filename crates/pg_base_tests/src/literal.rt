@@ -1,7 +1,7 @@
 //! Literals of expressions.
 use crate::machine::bounds_of;
 use crate::rows::{Question, assert_rows, bytes_of, repeated, show_bytes};
-use pg_literal::{Literal, RowFinder, RowOutcome};
+use pg_literal::{Literal, RowFinder, RowOutcome, reach};
 use pg_pattern::{Bounds, Tree};
 use pg_syntax::parse_ere;
 use std::alloc::{AllocError, Global};
@@ -189,6 +189,30 @@ plain a|[A-Z]{3} x:1 => none
 plain ([A-Z]{3})? x:1 => none",
 ];
 
+/// Extended expressions, which `;` parts, and within how many bytes of where a match begins one ends.
+const REACHES: &str = r"plain abc => 3
+plain  => 0
+plain abc;d => 3
+plain [0-9]{1,3}[.][0-9]{1,3} => 5
+plain a+ => 1
+plain a* => 0
+plain a? => 0
+plain x{3,} => 3
+plain x{2,5} => 2
+plain (ab?){3} => 5
+plain .{0,9}foo => 12
+plain .{0,100}word.{0,100} => 104
+plain .{0,100}(word|a+) => 104
+plain ((a|bcd)e){2,3}f => 13
+plain (.{255}){255} => 65025
+plain [a-z]+ing => none
+plain (ab|c)*d => none
+plain (ab*){2} => none
+plain ab;(a+)+b => none
+plain ^a => none
+plain a|b$ => none
+plain (^a)*b => none";
+
 /// The trees of expressions, which `;` parts. One that has none is shown.
 fn trees_of(alloc: Global, text: &str, fold: bool, out: &mut String) -> Vec<Tree> {
     let mut trees = Vec::new(alloc);
@@ -264,6 +288,20 @@ pub(crate) fn show_row(alloc: Global, kind: &str, asked: &str, out: &mut String)
         Ok(None) => write!(out, "none"),
         Err(AllocError) => write!(out, "out of memory"),
     };
+}
+
+/// Shows within how many bytes of where a match of expressions begins one ends.
+pub(crate) fn show_reach(alloc: Global, kind: &str, text: &str, out: &mut String) {
+    let trees = trees_of(alloc, text, kind == "fold", out);
+    let _ = match reach(&trees) {
+        Some(bytes) => write!(out, "{bytes}"),
+        None => write!(out, "none"),
+    };
+}
+
+#[test]
+fn reaches(rt: HostRuntime) {
+    assert_rows(&rt, rt.alloc(), Question::Reach, REACHES);
 }
 
 #[test]

@@ -13,7 +13,7 @@ ghost use Rattle.pg_lines.specs.Queries.{IsCompiled};
 ghost use Rattle.pg_prefilter.specs.Literals.{AreLiterals, TellHeads, data_of};
 ghost use Rattle.pg_prefilter.specs.Strings.{AreBlockStrings, FindsPart, IsSetOf, JudgesLine};
 ghost use Rattle.pg_prefilter.specs.declared.strings.NextString.TheVariants.{Behind};
-ghost use Rattle.pg_prefilter.specs.Candidates.{AreNeedles, AreSome, IsNextSought};
+ghost use Rattle.pg_prefilter.specs.Candidates.{AreNeedles, AreSome, IsNextSought, row_sought};
 ghost use Rattle.pg_prefilter.specs.NextHits.{HasNoNextHit, IsNextHit};
 ghost use Rattle.pg_lines.specs.Finding.{CanSearch};
 
@@ -26,7 +26,7 @@ use pg_blocks::{Block, Span, count_lines, line_end, text_of};
 use pg_literal::Literal;
 use pg_match::Scratch;
 use pg_prefilter::{
-    BlockStrings, FAR, LiteralSet, Needles, NextLine, NextString, fixed_strings, only_head,
+    BlockStrings, FAR, LiteralSet, Needles, NextLine, NextString, fixed_strings, near_text,
 };
 use pg_selection::{BlockResult, Found, Run};
 use std::alloc::{AllocError, Allocator};
@@ -87,11 +87,12 @@ fn has_hit<A: Allocator>(
     }
 }
 
-/// Whether a line is told by what the automaton remembers: where there is nothing else to ask, and where a text begins
-/// each match but the line is so short that to look for the text takes longer. The line begins some bytes.
+/// Whether a line is told by what the automaton remembers: where there is nothing else to ask, and where a text stands
+/// near where each match begins but the line is so short that to look for the text takes longer. The line begins some
+/// bytes.
 fn asks_automaton<A: Allocator>(strings: &BlockStrings<'_, A>, end: u8, bytes: &[u8]) -> bool {
     let near = &bytes[..bytes.len().min(SHORT)];
-    strings.are_none() || strings.are_a_head() && memchr(end, near).is_some()
+    strings.are_none() || strings.are_a_text() && memchr(end, near).is_some()
 }
 
 /// Where the text of a line ends that goes on up to a place, at most the count of bytes: at its terminator, or where
@@ -193,7 +194,8 @@ fn next_by_automaton<A: Allocator>(
 }
 
 /// How many lines held a needle and had no hit, with one more; without it there were fewer than 8. Where these are too
-/// many, the needles are given up, and for what takes their place none has been counted.
+/// many, the needles are given up, and for what takes their place none has been counted: the literals for a row, and the
+/// query's row for literals.
 fn with_one_in_vain<'n, A: Allocator>(
     query: &'n Query<A>,
     needles: &mut Needles<'n, A>,
@@ -209,7 +211,7 @@ fn with_one_in_vain<'n, A: Allocator>(
     if more < PATIENCE {
         return more;
     }
-    if needles.give_up(query.prefilter().row()) {
+    if needles.give_up(query.prefilter().later_row()) {
         0
     } else {
         more
@@ -229,14 +231,15 @@ fn next_candidate<'n, A: Allocator>(
     requires some { AreSome needles.old }
     ensures needles { AreNeedles query.now.text bytes.now at needles.new }
     ensures some { AreSome needles.new }
+    ensures row { row_sought needles.new ≡ row_sought needles.old }
     ensures next { IsNextSought query.now.text needles.new at bytes.now result }
 {
     needles.next_line(query.text(), bytes, at)
 }
 
 /// The first line with a hit at or behind a place where a line starts, with its terminator, where such lines hold a
-/// needle: only those that do are looked at. If too many of them have none, the needles are given up, and at last the
-/// rest of the block is searched line by line.
+/// needle: only those that do are looked at. If too many of them have none, or the needles stand in too many lines,
+/// others take their place, if there are such, and at last the rest of the block is searched line by line.
 #[inline(never)]
 fn next_confirmed<'n, A: Allocator>(
     query: &'n Query<A>,
@@ -261,6 +264,10 @@ fn next_confirmed<'n, A: Allocator>(
             NextLine::Found(found) => found,
             NextLine::Nowhere => return None,
             NextLine::GaveUp => {
+                if needles.give_way() {
+                    in_vain = 0;
+                    continue;
+                }
                 *needles = Needles::TooSlow;
                 return next_by_automaton(query, scratch, bytes, from);
             }
@@ -440,7 +447,7 @@ fn search_by<A: Allocator + Copy>(
     let found = query.prefilter();
     let strings = BlockStrings::new(
         fixed_strings(set),
-        only_head(options, literals, found.ignores_front()),
+        near_text(options, literals, found.ignores_front(), found.reach()),
         found.suffix(),
         searched,
     );

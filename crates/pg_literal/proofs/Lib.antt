@@ -5,6 +5,7 @@ pub mod FrontLemmas
 pub mod KnownLemmas
 pub mod LiteralLemmas
 pub mod RangeLemmas
+pub mod ReachLemmas
 pub mod RestLemmas
 pub mod RowLemmas
 pub mod SetLemmas

@@ -7,6 +7,7 @@ pub mod Inner
 pub mod Suffixes
 pub mod Rests
 pub mod Ranges
+pub mod Reaches
 pub mod CoveredSets
 pub mod Needed
 pub mod RowOutcomes

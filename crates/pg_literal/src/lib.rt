@@ -13,6 +13,7 @@ mod inner;
 mod known;
 mod literal;
 mod ranges;
+mod reaches;
 mod row;
 mod row_finder;
 mod row_outcome;
@@ -21,6 +22,7 @@ mod suffix;
 
 pub use front::looks_behind;
 pub use literal::Literal;
+pub use reaches::reach;
 pub use row_finder::RowFinder;
 pub use row_outcome::RowOutcome;
 pub use suffix::LineSuffix;

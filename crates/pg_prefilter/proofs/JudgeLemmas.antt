@@ -7,10 +7,11 @@ use Rattle.std.proofs.lemmas.List.{take-map, take-take, take_rest, drop-drop, le
 use Rattle.pg_literal.specs.Literals.{as_searched}
 use Rattle.pg_strings.specs.Outcomes.{strings_of}
 use Rattle.pg_selection.specs.Search.{SearchText}
-use Rattle.pg_prefilter.specs.Strings.{IsHead, AreStrings, IsSetOf, AreBlockStrings, JudgesLine}
+use Rattle.pg_prefilter.specs.Strings.{IsNear, AreStrings, IsSetOf, AreBlockStrings, JudgesLine}
 use Rattle.pg_prefilter.specs.declared.literal_set.LiteralSet.{LiteralSet}
 use Rattle.pg_strings.specs.declared.set.StringSet.{StringSet}
 use Rattle.pg_prefilter.specs.declared.strings.BlockStrings.{BlockStrings}
+use Rattle.pg_prefilter.specs.declared.strings.NearText.{NearText}
 use Rattle.pg_prefilter.proofs.NeedleLemmas.{searched_behind, searched_length}
 
 -- what is known of a value, if there is one
@@ -18,7 +19,8 @@ pub if_some_more : {X : Type 0} (P Q : X → Type 0) (o : Option X) → ((x : X)
 if_some_more P Q None more h = tt
 if_some_more P Q (Some x) more h = more x h
 
-take_searched : (fold : Bool) (n : ℕ) (xs : List ℕ) → take n (as_searched fold xs) ≡ as_searched fold (take n xs)
+-- the front of a line, as it is searched
+pub take_searched : (fold : Bool) (n : ℕ) (xs : List ℕ) → take n (as_searched fold xs) ≡ as_searched fold (take n xs)
 take_searched false n xs = refl
 take_searched true n xs = take-map _ n xs
 
@@ -29,7 +31,7 @@ module _ {A : Type 0} (text : SearchText) (bytes : List ℕ) (strings : BlockStr
       → JudgesLine text strings line at
   judges_line within is = record {
     set = if_some_more _ _ strings.set (λ set known. let l = lies known.1 in (known.0, l.0, l.1)) are.set;
-    head = if_some_more _ _ strings.head (λ head known. let l = lies known.1 in (known.0, l.0, l.1)) are.head;
+    near = if_some_more _ _ strings.near (λ near known. let l = lies known.1 in (known.0, l.0, l.1)) are.near;
     suffix = are.suffix;
   }
     where
@@ -102,13 +104,18 @@ strings_known {A} text bytes searched seen set found own known folded fixed same
         let Q : StringSet A → Type 0 = λ s. AreStrings text (strings_of s) in
         (subst Q (sym fixed.1) (known.1 fixed.0), is ∙ folded)
 
--- the text that hits begin with, over the bytes as they are searched
-pub head_known : (text : SearchText) (bytes searched seen : List ℕ) (found own : Option (List ℕ))
-    → (count : ℕ) → (0 < count → searched ≡ as_searched text.fold bytes) → IfSome found (IsHead text)
+-- the text that stands near where hits begin, over the bytes as they are searched
+pub near_known : (text : SearchText) (bytes searched seen : List ℕ) (found own : Option NearText)
+    → (count : ℕ) → (0 < count → searched ≡ as_searched text.fold bytes)
+    → IfSome found (λ near. IsNear text near.finder near.before)
     → IfSome found (λ _. 0 < count) → own ≡ found → seen ≡ searched
-    → IfSome own (λ head. IsHead text head × (seen ≡ as_searched text.fold bytes))
-head_known text bytes searched seen None own count folded heads some same is =
-    subst (λ o. IfSome o (λ head. IsHead text head × (seen ≡ as_searched text.fold bytes))) (sym same) tt
-head_known text bytes searched seen (Some head) own count folded heads some same is =
-    subst (λ o. IfSome o (λ head. IsHead text head × (seen ≡ as_searched text.fold bytes))) (sym same)
-    (heads, is ∙ folded some)
+    → IfSome own (λ near. IsNear text near.finder near.before × (seen ≡ as_searched text.fold bytes))
+near_known text bytes searched seen found own count folded near some same is =
+    subst (λ o. IfSome o (λ near. IsNear text near.finder near.before × (seen ≡ as_searched text.fold bytes)))
+    (sym same) (go found near some)
+  where
+    go : (found : Option NearText) → IfSome found (λ near. IsNear text near.finder near.before)
+        → IfSome found (λ _. 0 < count)
+        → IfSome found (λ near. IsNear text near.finder near.before × (seen ≡ as_searched text.fold bytes))
+    go None near some = tt
+    go (Some x) near some = (near, is ∙ folded some)

@@ -1,9 +1,9 @@
 pub mod CandidateLemmas
-pub mod HeadLemmas
 pub mod HitLemmas
 pub mod JudgeLemmas
 pub mod LiteralLemmas
 pub mod MayLemmas
+pub mod NearLemmas
 pub mod NeedleLemmas
 pub mod NeedleRowLemmas
 pub mod NeedleSetLemmas

@@ -17,7 +17,8 @@ use Rattle.pg_blocks.specs.Lines.{lines, IsLine}
 use Rattle.pg_prefilter.specs.Literals.{LiteralData}
 use Rattle.pg_selection.specs.Search.{SearchText, terminator_of}
 use Rattle.pg_prefilter.specs.Candidates.{AreWithout, IsFirstWith, IsLineAround}
-use Rattle.pg_prefilter.specs.Candidates.{literal_of, IsAhead, StandsAt, IsBefore, IsNeedleList}
+use Rattle.pg_prefilter.specs.Candidates.{literal_of, IsAhead, IsFoundBehind, StandsAt, IsBefore}
+use Rattle.pg_prefilter.specs.Candidates.{IsNeedleList}
 use Rattle.pg_prefilter.specs.declared.needle.Needle.{Needle}
 use Rattle.pg_prefilter.specs.declared.needle.NeedleList.{NeedleList}
 use Rattle.pg_prefilter.specs.declared.needle.Place.{Place}
@@ -53,18 +54,7 @@ abbrev pub IsNext : List ℕ → ℕ → List ℕ → Option ℕ → Type 0
 IsNext searched at p next =
     IfSome next (OccursAt searched p) × ((k : ℕ) → at ≤ k → OccursAt searched p k → IsSomeAnd next (λ place. place ≤ k))
 
--- the first place of all is the next one
-pub next_of_all : (searched p : List ℕ) (next : Option ℕ) → FindsNeedle searched p 0 next → IsNext searched 0 p next
-next_of_all searched p None none = (tt, λ k low o. absurd (none k (omega arith) (omega (arith, o.fits)) o))
-next_of_all searched p (Some place) found = (
-  found.1,
-  λ k low o. elim (cases_lt k place) [
-    | inl before ↦ absurd (found.0.before k (omega arith) before o)
-    | inr behind ↦ behind
-  ],
-)
-
--- nor does it stand further where nothing is found behind a place
+-- a needle stands no further where nothing is found behind a place
 pub next_none : (searched p : List ℕ) (at : ℕ) → at ≤ length searched → FindsNeedle (drop at searched) p 0 None
     → IsNext searched at p None
 next_none searched p at within none = (
@@ -146,13 +136,14 @@ to_literal needles n among = (
   get_or-map literal_of needles among.0 n (literal_of n) among.1 ∙ ap literal_of among.2,
 )
 
--- the place where a needle stands isn't before the one that all were asked for
-least_behind : (at : ℕ) (needles : List Needle) (place : Place) → All (λ n. IfSome n.next (λ p. at ≤ p)) needles
-    → Any (StandsAt place) needles → at ≤ place.at
-least_behind at needles place behind stands =
-    let Behind : Needle → Type 0 = λ n. IfSome n.next (λ p. at ≤ p) in
-    subst (λ o. IfSome o (λ p. at ≤ p)) stands.4.0
-    (All-contains Behind needles stands.1 behind (stands.0, stands.2, stands.3))
+-- a needle that was looked for stands at its place, which isn't before the one that all were asked for
+least_found : (searched : List ℕ) (at : ℕ) (needles : List Needle) (place : Place)
+    → All (IsFoundBehind searched at) needles → (stands : Any (StandsAt place) needles)
+    → (at ≤ place.at) × OccursAt searched stands.1.finder place.at
+least_found searched at needles place found stands =
+    let n = stands.1 in
+    subst (λ o. IfSome o (λ p. (at ≤ p) × OccursAt searched n.finder p)) stands.4.0
+    (All-contains (IsFoundBehind searched at) needles n found (stands.0, stands.2, stands.3))
 
 -- places in the bytes as they are searched, and in what stands behind one
 module _ (fold : Bool) (bytes searched : List ℕ) (at : ℕ) (is : searched ≡ as_searched fold bytes)
@@ -206,18 +197,16 @@ module _ (fold : Bool) (bytes searched : List ℕ) (at : ℕ) (needles : List Ne
       not_before p m None before some = absurd some
       not_before p m (Some n) before some = omega arith
 
-  -- a needle stands within the bytes
-  pub stands_within : (place : Place) → Any (StandsAt place) needles → place.at ≤ length bytes
-  stands_within place stands =
-      let n = stands.1 in
-      let own = (All-contains (IsAhead searched at) needles n ahead (stands.0, stands.2, stands.3)).stands in
-      let here = subst (λ o. IfSome o (OccursAt searched n.finder)) stands.4.0 own in
-      let fits = here.fits in
-      omega (arith, fits, searched_length fold bytes searched is)
+  -- a needle that was looked for stands within the bytes
+  pub stands_within : (place : Place) → All (IsFoundBehind searched at) needles → Any (StandsAt place) needles
+      → place.at ≤ length bytes
+  stands_within place found stands =
+      let here = least_found searched at needles place found stands in
+      omega (arith, here.1.fits, searched_length fold bytes searched is)
 
   -- the line around the least place
   pub line_of_least : (end : ℕ) (place : Place) (found : Candidate) → byte_as_searched fold end ≡ end
-      → All (λ l. IsLine end l.text) (map literal_of needles) → All (λ n. IfSome n.next (λ p. at ≤ p)) needles
+      → All (λ l. IsLine end l.text) (map literal_of needles) → All (IsFoundBehind searched at) needles
       → Any (StandsAt place) needles → All (IsBefore (Some place)) needles → place.is_enough ≡ found.is_enough
       → 0 < length (drop at bytes) → IsLineAround end at (drop at bytes) (place.at - at) found.line
       → IsFirstWith fold end (map literal_of needles) at (drop at bytes) found
@@ -225,10 +214,10 @@ module _ (fold : Bool) (bytes searched : List ℕ) (at : ℕ) (needles : List Ne
   line_of_least end place found plain alone behind stands least flag some h =
       let n = stands.1 in
       let among : Contains needles n = (stands.0, stands.2, stands.3) in
-      let own = (All-contains (IsAhead searched at) needles n ahead among).stands in
-      let here = subst (λ o. IfSome o (OccursAt searched n.finder)) stands.4.0 own in
+      let both = least_found searched at needles place behind stands in
+      let low = both.0 in
+      let here = both.1 in
       let k = place.at - at in
-      let low = least_behind at needles place behind stands in
       let from : place.at ≡ at + k = omega arith in
       let o = part_place fold bytes searched at is within n.finder k (subst (OccursAt searched n.finder) from here) in
       let literals = map literal_of needles in

@@ -51,6 +51,11 @@ next_sought text bytes at (Many set) next are some sought =
     next_with text (set_literals literals) are.literals
     (omega (arith, literals.some, length-map (strings_of literals.strings) (flagged literals.is_enough)))
     at bytes next sought
-next_sought text bytes at (Row row) next are some sought = next_row text row.finder.now are at bytes next sought
+next_sought text bytes at (Row row) next are some sought = next_row text row.finder.now are.0 at bytes next sought
 next_sought text bytes at GivenUp next are some sought = given_up text bytes at next sought
 next_sought text bytes at TooSlow next are some sought = given_up text bytes at next sought
+
+-- how often literals may take the place of what is looked for: once, that of a row
+abbrev pub turns : {X : Type 0} → Option X → ℕ
+turns None = 0
+turns (Some row) = 1

@@ -30,7 +30,7 @@ occurs_take xs s p stop within short o =
     }
 
 -- and the other way round
-take_occurs : (xs s : List ℕ) (p stop : ℕ) → stop ≤ length xs → OccursAt (take stop xs) s p
+pub take_occurs : (xs s : List ℕ) (p stop : ℕ) → stop ≤ length xs → OccursAt (take stop xs) s p
     → OccursAt xs s p × (p + length s ≤ stop)
 take_occurs xs s p stop within o =
     let long = length-take-le stop xs within in

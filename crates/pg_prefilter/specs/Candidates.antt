@@ -1,6 +1,6 @@
 -- Which lines hold a literal, or a row.
 use Rattle.std.specs.Prelude.{◌≡◌, ◌≢◌, ◌<◌, ◌≤◌, Bool, ℕ, ◌+◌, ◌-◌, ◌⊎◌, List, [], ◌∷◌, ◌++◌, length, take, drop, map}
-use Rattle.std.specs.Prelude.{Option, IfSome, None, Some, IsSomeAnd}
+use Rattle.std.specs.Prelude.{Option, IfSome, None, Some, IsSomeAnd, IsTrue}
 use Rattle.std.specs.List.{AllByRecursion, All, Any}
 use Rattle.memchr.specs.Find.{OccursAt}
 use Rattle.pg_literal.specs.Literals.{Holds, as_searched}
@@ -87,10 +87,15 @@ pub record IsFirstWithRow {A : Type 0} (end : ℕ) (finder : RowFinder A) (at : 
 abbrev pub literal_of : Needle → LiteralData
 literal_of needle = record { text = needle.finder; is_enough = needle.is_enough }
 
--- the needle stands where it says, and from a place on nowhere before
+-- from a place on the needle stands nowhere before where it says, and there if it was looked for
 pub record IsAhead (searched : List ℕ) (at : ℕ) (needle : Needle) : Type 0 where
-  pub stands : IfSome needle.next (OccursAt searched needle.finder)
+  pub stands : IsTrue needle.is_sought → IfSome needle.next (OccursAt searched needle.finder)
   pub first : (k : ℕ) → at ≤ k → OccursAt searched needle.finder k → IsSomeAnd needle.next (λ place. place ≤ k)
+
+-- the needle stands where it says, and that is behind a place
+abbrev pub IsFoundBehind : List ℕ → ℕ → Needle → Type 0
+IsFoundBehind searched at needle =
+    IfSome needle.next (λ place. (at ≤ place) × OccursAt searched needle.finder place)
 
 -- the needle stands at the place
 abbrev pub StandsAt : Place → Needle → Type 0
@@ -111,11 +116,12 @@ pub record IsNeedleSet {A : Type 0} (text : SearchText) (bytes : List ℕ) (set 
   pub literals : AreLiterals text (set_literals set.literals.now)
   pub searched : set.searched.now ≡ as_searched text.fold bytes
 
--- the same of either, or of a row; nothing is said where they were given up
+-- the same of either, or of a row and the literals that may take its place; nothing is said where they were given up
 abbrev pub AreNeedles : {A : Type 0} → SearchText → List ℕ → ℕ → Needles A → Type 0
 AreNeedles text bytes at (Few list) = IsNeedleList text bytes at list
 AreNeedles text bytes at (Many set) = IsNeedleSet text bytes set
-AreNeedles text bytes at (Row row) = IsRowOf text row.finder.now
+AreNeedles text bytes at (Row row) =
+    IsRowOf text row.finder.now × IfSome row.list (IsNeedleList text bytes 0) × IfSome row.set (IsNeedleSet text bytes)
 AreNeedles text bytes at GivenUp = Unit {0}
 AreNeedles text bytes at TooSlow = Unit {0}
 

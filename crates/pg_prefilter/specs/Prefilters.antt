@@ -2,7 +2,7 @@
 use Rattle.std.specs.Prelude.{IsTrue, IfSome, map}
 use Rattle.pg_selection.specs.Search.{SearchText}
 use Rattle.pg_prefilter.specs.Literals.{AreLiterals, IsRowOf, TellHeads, data_of}
-use Rattle.pg_prefilter.specs.Strings.{HitsIgnoreFront, IsSetOf, IsSuffixOf}
+use Rattle.pg_prefilter.specs.Strings.{HitsIgnoreFront, IsReachOf, IsSetOf, IsSuffixOf}
 use Rattle.pg_prefilter.specs.declared.prefilter.Prefilter.{Prefilter}
 
 -- all that it holds is true of the query's hits
@@ -12,4 +12,5 @@ pub record IsPrefilterOf {A : Type 0} (text : SearchText) (found : Prefilter A) 
   pub set : IfSome found.literal_set (IsSetOf text)
   pub suffix : IfSome found.suffix (IsSuffixOf text)
   pub front : IsTrue found.ignores_front → HitsIgnoreFront text
+  pub reach : IfSome found.reach (IsReachOf text)
   pub row : IfSome found.row (IsRowOf text)

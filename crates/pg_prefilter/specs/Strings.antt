@@ -1,12 +1,14 @@
--- Queries whose patterns are all fixed strings, or whose matches begin alike or are a line's end, and where these stand
--- in a line (XCU grep, -F; GNU grep, -w and -o).
+-- Queries whose patterns are all fixed strings, or whose matches have a text near where they begin or are a line's end,
+-- and where these stand in a line (XCU grep, -F; GNU grep, -w and -o).
 use Rattle.std.specs.Prelude.{◌≡◌, ℕ, ◌+◌, ◌<◌, ◌≤◌, List, length, map, slice_range, IfSome}
 use Rattle.std.specs.Prelude.{Option, MatchOption, IsTrue}
 use Rattle.std.specs.List.{Any}
 use Rattle.memchr.specs.Find.{OccursAt}
 use Rattle.pg_pattern.specs.Bounds.{MayBegin, MayEnd}
 use Rattle.pg_pattern.specs.Hits.{Hit, IsNext}
+use Rattle.pg_pattern.specs.declared.bounds.Bounds.TheVariants as B
 use Rattle.pg_literal.specs.Literals.{as_searched}
+use Rattle.pg_literal.specs.Reaches.{IsReach}
 use Rattle.pg_literal.specs.Rests.{IgnoresFront}
 use Rattle.pg_literal.specs.Suffixes.{IsSuffix, suffix_row}
 use Rattle.pg_literal.specs.declared.suffix.LineSuffix.{LineSuffix}
@@ -71,11 +73,16 @@ abbrev pub IsSetOf : {A : Type 0} → SearchText → LiteralSet A → Type 0
 IsSetOf text set =
     AreLiterals text (set_literals set) × (IsTrue set.is_fixed → AreStrings text (strings_of set.strings))
 
--- no hit of the search is empty, and each begins with the text; with -i in the line in lower case
-abbrev pub IsHead : SearchText → List ℕ → Type 0
-IsHead text head =
+-- each hit of the search has a byte, and the text stands at most so many bytes behind where it begins; with -i in the
+-- line in lower case
+abbrev pub IsNear : SearchText → List ℕ → ℕ → Type 0
+IsNear text near before =
     (trees : List Pattern) → AreTreesOf text trees → (line : List ℕ) (i j : ℕ) → Hit trees (bounds_of text) line i j
-    → (i < j) × OccursAt (as_searched text.fold line) head i
+    → (i < j) × ((place : ℕ) × (i ≤ place) × (place ≤ i + before) × OccursAt (as_searched text.fold line) near place)
+
+-- any match counts, each hit of the search is one by itself, and where one begins, one ends within so many bytes
+abbrev pub IsReachOf : SearchText → ℕ → Type 0
+IsReachOf text reach = (trees : List Pattern) → AreTreesOf text trees → (bounds_of text ≡ B.Any) × IsReach trees reach
 
 -- the hits of the search behind a place of a line are those of the rest of the line
 abbrev pub HitsIgnoreFront : SearchText → Type 0
@@ -86,12 +93,13 @@ abbrev pub IsSuffixOf : {A : Type 0} → SearchText → LineSuffix A → Type 0
 IsSuffixOf text suffix =
     (trees : List Pattern) → AreTreesOf text trees → IsSuffix trees (bounds_of text) (suffix_row suffix)
 
--- the strings of a query, the text that its hits begin with, or the suffix that they are, if there are such; and the
--- bytes as they are searched for in them
+-- the strings of a query, the text that stands near where its hits begin, or the suffix that they are, if there are
+-- such; and the bytes as they are searched for in them
 pub record AreBlockStrings {A : Type 0} (text : SearchText) (bytes : List ℕ) (strings : BlockStrings A) : Type 0 where
   pub set : IfSome strings.set (λ set. AreStrings text (strings_of set.now)
       × (strings.searched.now ≡ as_searched text.fold bytes))
-  pub head : IfSome strings.head (λ head. IsHead text head × (strings.searched.now ≡ as_searched text.fold bytes))
+  pub near : IfSome strings.near (λ near. IsNear text near.finder near.before
+      × (strings.searched.now ≡ as_searched text.fold bytes))
   pub suffix : IfSome strings.suffix (λ suffix. IsSuffixOf text suffix.now)
 
 -- the same, where the line stands at a place of the bytes
@@ -100,7 +108,7 @@ pub record JudgesLine {A : Type 0} (text : SearchText) (strings : BlockStrings A
     pub set : IfSome strings.set (λ set. AreStrings text (strings_of set.now)
         × (at + length line ≤ length strings.searched.now)
         × (slice_range strings.searched.now at (at + length line) ≡ as_searched text.fold line))
-    pub head : IfSome strings.head (λ head. IsHead text head
+    pub near : IfSome strings.near (λ near. IsNear text near.finder near.before
         × (at + length line ≤ length strings.searched.now)
         × (slice_range strings.searched.now at (at + length line) ≡ as_searched text.fold line))
     pub suffix : IfSome strings.suffix (λ suffix. IsSuffixOf text suffix.now)

@@ -20,4 +20,4 @@ pub use candidate::{Candidate, NextLine};
 pub use literal_set::{LiteralSet, fixed_strings};
 pub use needles::{FAR, Needles};
 pub use prefilter::Prefilter;
-pub use strings::{BlockStrings, NextString, only_head};
+pub use strings::{BlockStrings, NearText, NextString, near_text};

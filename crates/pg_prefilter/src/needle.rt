@@ -1,10 +1,11 @@
 //! Where the literals of a query stand in a block.
-ghost use Rattle.std.specs.Prelude.{◌≡◌, ◌⊎◌, ◌<◌, ◌≤◌, ◌==◌, length, map, drop, IfOk, IfSome, IfNone, IsSomeAnd};
+ghost use Rattle.std.specs.Prelude.{◌≡◌, ◌⊎◌, ◌<◌, ◌≤◌, ◌==◌, ℕ, List, length, map, drop};
+ghost use Rattle.std.specs.Prelude.{IfOk, IfSome, IfNone, IsSomeAnd};
 ghost use Rattle.std.specs.List.{All, Any};
 ghost use Rattle.pg_selection.specs.Search.{terminator_of};
 ghost use Rattle.pg_prefilter.specs.Literals.{data_of};
 ghost use Rattle.pg_prefilter.specs.Candidates.{literal_of, IsAhead, StandsAt, IsBefore, IsNeedleList};
-ghost use Rattle.pg_prefilter.specs.Candidates.{AreWithout, IsFirstWith};
+ghost use Rattle.pg_prefilter.specs.Candidates.{AreWithout, IsFirstWith, IsFoundBehind};
 
 use crate::candidate::Candidate;
 use memchr::memmem::Finder;
@@ -18,8 +19,10 @@ pub struct Needle<'n> {
     finder: Finder<'n>,
     /// Each line that holds it has a hit.
     is_enough: bool,
-    /// Where it stands next; `None` where it stands nowhere further.
+    /// Where it stands next, or before it was looked for, where it may; `None` where it stands nowhere further.
     next: Option<usize>,
+    /// It was looked for.
+    is_sought: bool,
 }
 
 /// A place where a needle stands.
@@ -31,36 +34,39 @@ pub struct Place {
 }
 
 impl<'n> Needle<'n> {
-    /// The needle of a literal, with its first place.
-    fn new<A: Allocator>(literal: &'n Literal<A>, searched: &[u8]) -> Needle<'n>
+    /// The needle of a literal, which isn't looked for yet.
+    fn new<A: Allocator>(literal: &'n Literal<A>) -> Needle<'n>
         ensures literal { literal_of result ≡ data_of literal.now }
-        ensures ahead { IsAhead searched.now 0 result }
+        ensures ahead { (searched : List ℕ) → IsAhead searched 0 result }
     {
-        let finder = Finder::new(&literal.text);
-        let next = finder.find(searched);
         Needle {
-            finder,
+            finder: Finder::new(&literal.text),
             is_enough: literal.is_enough,
-            next,
+            next: Some(0),
+            is_sought: false,
         }
     }
 
-    /// Finds its next place anew where that was passed.
+    /// Finds its next place where it wasn't looked for yet, or that was passed.
     fn advance(&mut self, searched: &[u8], at: usize)
         requires at { at ≤ length searched.now }
         requires ahead { IsAhead searched.now at self.old }
         ensures literal { literal_of self.new ≡ literal_of self.old }
         ensures ahead { IsAhead searched.now at self.new }
-        ensures behind { IfSome self.new.next (λ place. at ≤ place) }
+        ensures found { IsFoundBehind searched.now at self.new }
     {
-        if let Some(place) = self.next {
-            if place < at {
-                self.next = match self.finder.find(&searched[at..]) {
-                    Some(found) => Some(at + found),
-                    None => None,
-                };
-            }
+        let is_behind = match self.next {
+            Some(place) => at <= place,
+            None => true,
+        };
+        if is_behind && self.is_sought {
+            return;
         }
+        self.is_sought = true;
+        self.next = match self.finder.find(&searched[at..]) {
+            Some(found) => Some(at + found),
+            None => None,
+        };
     }
 
     /// The lesser of a place and the needle's own; where both are one, that of a needle that is enough.
@@ -109,11 +115,12 @@ impl<'n, A: Allocator> NeedleList<'n, A> {
         ensures searched { IfOk result (λ needles. needles.searched.now ≡ searched.now) }
         ensures literals { IfOk result
             (λ needles. map literal_of needles.needles.items ≡ map data_of literals.now) }
-        ensures ahead { IfOk result (λ needles. All (IsAhead searched.now 0) needles.needles.items) }
+        ensures ahead { IfOk result
+            (λ needles. (bytes : List ℕ) → All (IsAhead bytes 0) needles.needles.items) }
     {
         let mut needles = Vec::new(alloc);
         for literal in literals {
-            needles.push(Needle::new(literal, searched))?;
+            needles.push(Needle::new(literal))?;
         }
         Ok(NeedleList { needles, searched })
     }
@@ -125,14 +132,14 @@ impl<'n, A: Allocator> NeedleList<'n, A> {
         self.needles.is_empty()
     }
 
-    /// Finds each place anew that was passed.
+    /// Finds each place that isn't known yet, or was passed.
     fn advance(&mut self, at: usize)
         requires at { at ≤ length self.old.searched.now }
         requires ahead { All (IsAhead self.old.searched.now at) self.old.needles.items }
         ensures searched { self.new.searched ≡ self.old.searched }
         ensures literals { map literal_of self.new.needles.items ≡ map literal_of self.old.needles.items }
         ensures ahead { All (IsAhead self.new.searched.now at) self.new.needles.items }
-        ensures behind { All (λ needle. IfSome needle.next (λ place. at ≤ place)) self.new.needles.items }
+        ensures found { All (IsFoundBehind self.new.searched.now at) self.new.needles.items }
     {
         let searched = self.searched;
         for needle in self.needles.iter_mut() {

@@ -1,5 +1,7 @@
 //! What lines with a hit hold, as it is looked for in a block.
-ghost use Rattle.std.specs.Prelude.{◌≡◌, ◌<◌, ◌≤◌, ℕ, List, [], length, map, false, None, IfOk, IfSome, IsSome, IsTrue};
+ghost use Rattle.std.specs.Prelude.{◌≡◌, ◌↔◌, ◌<◌, ◌≤◌, ℕ, List, length, map, false, None};
+ghost use Rattle.std.specs.Prelude.{IfOk, IfSome, IsSome, IsTrue};
+ghost use Rattle.pg_prefilter.specs.declared.needles.Needles.TheVariants.{GivenUp, Row};
 ghost use Rattle.pg_literal.specs.Literals.{as_searched};
 ghost use Rattle.pg_selection.specs.Search.{SearchText};
 ghost use Rattle.pg_prefilter.specs.Literals.{AreLiterals, IsRowOf, data_of, set_literals};
@@ -13,6 +15,7 @@ use crate::needle_set::NeedleSet;
 use pg_literal::{Literal, RowFinder};
 use pg_selection::QueryText;
 use std::alloc::{AllocError, Allocator};
+use std::mem;
 
 /// It takes as long to look at a line that holds a needle as to search so many bytes line by line.
 pub const FAR: usize = 128;
@@ -43,8 +46,9 @@ impl<'n, A: Allocator> Drop for Needles<'n, A> {
 }
 
 impl<'n, A: Allocator> Needles<'n, A> {
-    /// A row, if there is one, else the needles of a set of literals, if there is one, else those of a few literals.
-    /// They are needles of the text in which these were found. A refused request for memory is the only error.
+    /// A row, if there is one, whose place literals may take; else the needles of a set of literals, if there is one,
+    /// else those of a few literals. They are needles of the text in which these were found. A refused request for
+    /// memory is the only error.
     pub fn new(
         alloc: A,
         literals: &'n [Literal<A>],
@@ -59,12 +63,19 @@ impl<'n, A: Allocator> Needles<'n, A> {
             → IfSome set.entry (λ _. searched.now ≡ as_searched text.fold bytes)
             → IfOk result (AreNeedles text bytes 0) }
     {
+        let set = match set {
+            Some(set) => Some(NeedleSet::new(set, searched)),
+            None => None,
+        };
         match (row, set) {
-            (Some(row), _) => Ok(Needles::Row(NeedleRow::new(row))),
-            (None, Some(set)) => Ok(Needles::Many(NeedleSet::new(set, searched))),
+            (None, Some(set)) => Ok(Needles::Many(set)),
             (None, None) => {
                 let list = NeedleList::new(alloc, literals, searched)?;
                 Ok(Needles::Few(list))
+            }
+            (Some(row), set) => {
+                let list = NeedleList::new(alloc, literals, searched)?;
+                Ok(Needles::Row(NeedleRow::new(row, Some(list), set)))
             }
         }
     }
@@ -88,28 +99,57 @@ impl<'n, A: Allocator> Needles<'n, A> {
         }
     }
 
-    /// Gives them up, since they stood in too many lines in vain: the row of the query, if it has one, takes the place
-    /// of literals. Tells whether it does. The row is one that was found in the query's text.
+    /// The row that they are, if they are one.
+    fn into_row(self) -> Option<NeedleRow<'n, A>>
+        ensures { IfSome result (λ row. self.entry ≡ Row row) }
+    {
+        match self {
+            Needles::Row(row) => Some(row),
+            Needles::Few(_) | Needles::Many(_) | Needles::GivenUp | Needles::TooSlow => None,
+        }
+    }
+
+    /// Gives up a row, whose literals take its place, if it has some. Tells whether they do.
+    pub fn give_way(&mut self) -> bool
+        ensures needles { (text : SearchText) (bytes : List ℕ) (at : ℕ)
+            → AreNeedles text bytes at self.old → AreNeedles text bytes at self.new }
+        ensures some { IsTrue result → AreSome self.new }
+        ensures row { IsTrue result → IsSome (row_sought self.old) × (row_sought self.new ≡ None) }
+        ensures none { result ≡ false → self.new ≡ GivenUp }
+    {
+        let Some(row) = mem::replace(self, Needles::GivenUp).into_row() else {
+            return false;
+        };
+        let (list, set) = row.into_literals();
+        match (list, set) {
+            (_, Some(set)) => *self = Needles::Many(set),
+            (Some(list), None) if !list.is_empty() => *self = Needles::Few(list),
+            _ => return false,
+        }
+        true
+    }
+
+    /// Gives them up, since they stood in too many lines in vain: the literals of a row take its place, and that of
+    /// literals the row that is given, if there is one. Tells whether something does. The row is one that was found in
+    /// the query's text.
     pub fn give_up(&mut self, row: Option<&'n RowFinder<A>>) -> bool
         ensures needles { (text : SearchText) (bytes : List ℕ) (at : ℕ)
-            → IfSome row.entry (λ row. IsRowOf text row.now) → AreNeedles text bytes at self.new }
-        ensures literals { literals_sought self.new ≡ [] }
-        ensures row { IsTrue result → IsSome (row_sought self.new) }
-        ensures none { result ≡ false → row_sought self.new ≡ None }
+            → AreNeedles text bytes at self.old → IfSome row.entry (λ row. IsRowOf text row.now)
+            → AreNeedles text bytes at self.new }
+        ensures some { IsTrue result → AreSome self.new }
+        ensures row { IsTrue result → IsSome (row_sought self.old) ↔ (row_sought self.new ≡ None) }
+        ensures none { result ≡ false → self.new ≡ GivenUp }
     {
-        let next = match self {
-            Needles::Few(_) | Needles::Many(_) => row,
-            Needles::Row(_) | Needles::GivenUp | Needles::TooSlow => None,
+        let has_literals = match self {
+            Needles::Few(_) | Needles::Many(_) => true,
+            Needles::Row(_) | Needles::GivenUp | Needles::TooSlow => false,
         };
-        match next {
-            Some(row) => {
-                *self = Needles::Row(NeedleRow::new(row));
+        match row {
+            Some(row) if has_literals => {
+                *self = Needles::Row(NeedleRow::new(row, None, None));
                 true
             }
-            None => {
-                *self = Needles::GivenUp;
-                false
-            }
+            _ => self.give_way(),
         }
     }
 

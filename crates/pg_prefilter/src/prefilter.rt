@@ -5,13 +5,13 @@ ghost use Rattle.pg_selection.specs.Search.{SearchText, AreTreesOf, Fixed, patte
 ghost use Rattle.pg_blocks.specs.Lines.{IsLine};
 ghost use Rattle.pg_literal.specs.Literals.{as_searched};
 ghost use Rattle.pg_prefilter.specs.Literals.{AreLiterals, IsRowOf, TellHeads, data_of};
-ghost use Rattle.pg_prefilter.specs.Strings.{HitsIgnoreFront, IsSetOf, IsSuffixOf};
+ghost use Rattle.pg_prefilter.specs.Strings.{HitsIgnoreFront, IsReachOf, IsSetOf, IsSuffixOf};
 ghost use Rattle.pg_prefilter.specs.Prefilters.{IsPrefilterOf};
 
 use crate::literal_set::{LiteralSet, few_of};
 use pg_grammar::Kind;
-use pg_literal::{LineSuffix, Literal, RowFinder, looks_behind};
-use pg_pattern::Tree;
+use pg_literal::{LineSuffix, Literal, RowFinder, looks_behind, reach};
+use pg_pattern::{Bounds, Tree};
 use pg_selection::QueryText;
 use std::alloc::{AllocError, Allocator, Global};
 
@@ -25,6 +25,8 @@ pub struct Prefilter<A: Allocator = Global> {
     suffix: Option<LineSuffix<A>>,
     /// What stands before a place of a line doesn't matter to the matches behind it.
     ignores_front: bool,
+    /// How many bytes at most a match needs from where it begins, if any match counts and such a bound is known.
+    reach: Option<usize>,
     /// A row that stands in each line with a hit, if one is known that is rare.
     row: Option<RowFinder<A>>,
 }
@@ -36,6 +38,7 @@ impl<A: Allocator> Drop for Prefilter<A> {
             literal_set: _,
             suffix: _,
             ignores_front: _,
+            reach: _,
             row: _,
         } = self;
     }
@@ -53,12 +56,14 @@ impl<A: Allocator> Prefilter<A> {
         let literal_set = LiteralSet::of(alloc, &literals, is_fixed(text), text.bounds())?;
         let suffix = suffix_of(alloc, text, trees)?;
         let ignores_front = ignores_front(text, trees);
+        let reach = reach_of(text, trees);
         let row = row_of(alloc, text, trees, &literals)?;
         Ok(Prefilter {
             literals: few_of(alloc, literals),
             literal_set,
             suffix,
             ignores_front,
+            reach,
             row,
         })
     }
@@ -88,6 +93,14 @@ impl<A: Allocator> Prefilter<A> {
         self.ignores_front
     }
 
+    /// How many bytes at most a match needs from where it begins: wherever a match begins, one ends within so many
+    /// bytes, and each match is one by itself. `None` where such a bound isn't known, or not any match counts.
+    pub fn reach(&self) -> Option<usize>
+        ensures { (text : SearchText) → IsPrefilterOf text self.now → IfSome result (IsReachOf text) }
+    {
+        self.reach
+    }
+
     /// The suffix that each match is, if there is one: then it alone judges lines.
     pub fn suffix(&self) -> Option<&LineSuffix<A>>
         ensures { (text : SearchText) → IsPrefilterOf text self.now
@@ -97,7 +110,7 @@ impl<A: Allocator> Prefilter<A> {
     }
 
     /// A row that stands in each line with a hit, if one is known that is rare.
-    pub fn row(&self) -> Option<&RowFinder<A>>
+    fn row(&self) -> Option<&RowFinder<A>>
         ensures { (text : SearchText) → IsPrefilterOf text self.now → IfSome result (λ row. IsRowOf text row.now) }
     {
         self.row.as_ref()
@@ -109,6 +122,14 @@ impl<A: Allocator> Prefilter<A> {
     {
         let row = self.row()?;
         if row.is_first { Some(row) } else { None }
+    }
+
+    /// The same, if it costs as much or more: it may take the place of literals that stand in too many lines in vain.
+    pub fn later_row(&self) -> Option<&RowFinder<A>>
+        ensures { (text : SearchText) → IsPrefilterOf text self.now → IfSome result (λ row. IsRowOf text row.now) }
+    {
+        let row = self.row()?;
+        if row.is_first { None } else { Some(row) }
     }
 }
 
@@ -183,6 +204,18 @@ fn ignores_front<A: Allocator>(text: &QueryText<A>, trees: &[Tree<A>]) -> bool
     ensures { IsTrue result → HitsIgnoreFront text.now }
 {
     !looks_behind(trees, text.bounds())
+}
+
+/// How many bytes at most a match of a text's patterns, whose trees these are, needs from where it begins, where any
+/// match counts and such a bound is known.
+fn reach_of<A: Allocator>(text: &QueryText<A>, trees: &[Tree<A>]) -> Option<usize>
+    requires trees { AreTreesOf text.now (map pattern trees.now) }
+    ensures { IfSome result (IsReachOf text.now) }
+{
+    match text.bounds() {
+        Bounds::Any => reach(trees),
+        Bounds::Word | Bounds::Whole => None,
+    }
 }
 
 /// Whether no literal has the byte that ends a line.

@@ -1,11 +1,11 @@
 //! What judges lines before the automaton: the strings of a query whose patterns are all fixed strings, a text that
-//! each match begins with, or a suffix of lines that each match is.
-ghost use Rattle.std.specs.Prelude.{◌≡◌, ◌↔◌, ◌+◌, ◌<◌, ◌≤◌, List, length, IfSome, IsTrue, None};
+//! stands near where each match begins, or a suffix of lines that each match is.
+ghost use Rattle.std.specs.Prelude.{◌≡◌, ◌↔◌, ◌+◌, ◌<◌, ◌≤◌, List, length, map, IfSome, IsTrue, None};
 ghost use Rattle.pg_strings.specs.Outcomes.{strings_of};
 ghost use Rattle.pg_selection.specs.Search.{SearchText, Pattern, Bounds, AreTreesOf, bounds_of};
-ghost use Rattle.pg_prefilter.specs.Literals.{TellHeads};
+ghost use Rattle.pg_prefilter.specs.Literals.{AreLiterals, TellHeads, data_of};
 ghost use Rattle.pg_literal.specs.Suffixes.{IsSuffix, suffix_row};
-ghost use Rattle.pg_prefilter.specs.Strings.{IsLongestHit, FindsString, FindsPart, IsHead, JudgesLine};
+ghost use Rattle.pg_prefilter.specs.Strings.{IsLongestHit, FindsString, FindsPart, IsNear, IsReachOf, JudgesLine};
 
 use memchr::memmem::Finder;
 use pg_blocks::Span;
@@ -32,11 +32,19 @@ pub enum NextString {
     GaveUp,
 }
 
-/// The strings by which the lines of a block are judged, if the query is one of fixed strings; or the text that each
-/// match begins with, if there is one and parts are asked for; or the suffix that each match is; and the block's bytes.
+/// A text that stands in each match, or near where it begins: at most `before` bytes behind that.
+#[derive(Drop)]
+pub struct NearText<'s> {
+    finder: Finder<'s>,
+    before: usize,
+}
+
+/// The strings by which the lines of a block are judged, if the query is one of fixed strings; or the text that stands
+/// near where each match begins, if there is one and it is of use; or the suffix that each match is; and the block's
+/// bytes.
 pub struct BlockStrings<'s, A: Allocator> {
     set: Option<&'s StringSet<A>>,
-    head: Option<Finder<'s>>,
+    near: Option<NearText<'s>>,
     suffix: Option<&'s LineSuffix<A>>,
     /// The block's bytes, where case is folded in lower case.
     searched: &'s [u8],
@@ -46,7 +54,7 @@ impl<'s, A: Allocator> Drop for BlockStrings<'s, A> {
     fn drop(self) {
         let BlockStrings {
             set: _,
-            head: _,
+            near: _,
             suffix: _,
             searched: _,
         } = self;
@@ -152,41 +160,59 @@ fn next_suffix<A: Allocator>(suffix: &LineSuffix<A>, line: &[u8], from: usize) -
     })
 }
 
-/// The text that each match of a query begins with, if it has but this literal, and either parts of lines are asked for
-/// or the rest of a line tells whether it has a hit, since what stands before it is ignored. Else a line is judged
-/// faster by the automaton alone, which needn't find where a match ends. The literals are those that were found in the
-/// text.
-pub fn only_head<'l, A: Allocator>(
+/// The text that stands near where each match of a query begins, if the query has but this literal. Where parts of
+/// lines are asked for, that is one that each match begins with, or one within as many bytes as a match needs from
+/// where it begins, if that is known. Where they aren't, it is but the former, and only if the rest of a line tells
+/// whether it has a hit, since what stands before it is ignored. Else a line is judged faster by the automaton alone,
+/// which needn't find where a match ends. The literals and the reach are those that were found in the text.
+pub fn near_text<'l, A: Allocator>(
     text: &QueryText<A>,
     literals: &'l [Literal<A>],
     ignores_front: bool,
-) -> Option<Finder<'l>>
-    requires { TellHeads text.now literals.now }
-    ensures head { IfSome result (IsHead text.now) }
+    reach: Option<usize>,
+) -> Option<NearText<'l>>
+    requires heads { TellHeads text.now literals.now }
+    requires literals { AreLiterals text.now (map data_of literals.now) }
+    requires reach { IfSome reach (IsReachOf text.now) }
+    ensures near { IfSome result (λ near. IsNear text.now near.finder near.before) }
     ensures some { IfSome result (λ _. 0 < length literals.now) }
 {
-    let is_wanted = text.with_parts && !text.invert || ignores_front;
-    if !is_wanted || literals.len() != 1 || !literals[0].is_head {
+    if literals.len() != 1 {
         return None;
     }
-    Some(Finder::new(&literals[0].text))
+    let needle = &literals[0].text;
+    let has_parts = text.with_parts && !text.invert;
+    if literals[0].is_head && (has_parts || ignores_front) {
+        return Some(NearText {
+            finder: Finder::new(needle),
+            before: 0,
+        });
+    }
+    if !has_parts || needle.is_empty() {
+        return None;
+    }
+    let before = reach?.checked_sub(needle.len())?;
+    Some(NearText {
+        finder: Finder::new(needle),
+        before,
+    })
 }
 
 impl<'s, A: Allocator> BlockStrings<'s, A> {
     pub fn new(
         set: Option<&'s StringSet<A>>,
-        head: Option<Finder<'s>>,
+        near: Option<NearText<'s>>,
         suffix: Option<&'s LineSuffix<A>>,
         searched: &'s [u8],
     ) -> BlockStrings<'s, A>
         ensures set { result.set ≡ set.entry }
-        ensures head { result.head ≡ head.entry }
+        ensures near { result.near ≡ near.entry }
         ensures suffix { result.suffix ≡ suffix.entry }
         ensures searched { result.searched.now ≡ searched.now }
     {
         BlockStrings {
             set,
-            head,
+            near,
             suffix,
             searched,
         }
@@ -194,28 +220,32 @@ impl<'s, A: Allocator> BlockStrings<'s, A> {
 
     /// Whether there is nothing to look for before the automaton is asked.
     pub fn are_none(&self) -> bool
-        ensures { IsTrue result ↔ ((self.now.set ≡ None) × (self.now.head ≡ None) × (self.now.suffix ≡ None)) }
+        ensures { IsTrue result ↔ ((self.now.set ≡ None) × (self.now.near ≡ None) × (self.now.suffix ≡ None)) }
     {
-        self.set.is_none() && self.head.is_none() && self.suffix.is_none()
+        self.set.is_none() && self.near.is_none() && self.suffix.is_none()
     }
 
-    /// Whether there is but a text that each match begins with.
-    pub fn are_a_head(&self) -> bool {
-        self.set.is_none() && self.suffix.is_none() && self.head.is_some()
+    /// Whether there is but a text that stands near where each match begins.
+    pub fn are_a_text(&self) -> bool {
+        self.set.is_none() && self.suffix.is_none() && self.near.is_some()
     }
 
-    /// Where the text next stands that each match begins with, from a place of the line on.
-    fn next_head(&self, line: &[u8], at: usize, from: usize) -> NextString
-        requires line { IfSome self.now.head (λ _. at + length line.now ≤ length self.now.searched.now) }
+    /// A place of the line, from another one on, before which no match begins, since the text that stands near where
+    /// each begins next stands so far behind it; or that there is none.
+    fn next_near(&self, line: &[u8], at: usize, from: usize) -> NextString
+        requires line { IfSome self.now.near (λ _. at + length line.now ≤ length self.now.searched.now) }
         requires from { from ≤ length line.now }
         ensures { (text : SearchText) → JudgesLine text self.now line.now at → (trees : List Pattern)
             → AreTreesOf text trees → FindsPart trees (bounds_of text) line.now from result }
     {
-        match &self.head {
-            Some(head) => {
+        match &self.near {
+            Some(near) => {
                 let rest = &self.searched[at + from..at + line.len()];
-                match head.find(rest) {
-                    Some(place) => NextString::Behind(from + place),
+                match near.finder.find(rest) {
+                    Some(place) => {
+                        let first = (from + place).saturating_sub(near.before);
+                        NextString::Behind(from.max(first))
+                    }
                     None => NextString::Nowhere,
                 }
             }
@@ -238,7 +268,7 @@ impl<'s, A: Allocator> BlockStrings<'s, A> {
             }
             None => match self.suffix {
                 Some(suffix) => next_suffix(suffix, line, from),
-                None => self.next_head(line, at, from),
+                None => self.next_near(line, at, from),
             },
         }
     }

@@ -1,6 +1,6 @@
 use Rattle.std.proofs.Common.{length}
 use Rattle.pg_selection.specs.Search.{bounds_of}
-use Rattle.pg_prefilter.proofs.HeadLemmas.{within_behind, piece_behind}
+use Rattle.pg_prefilter.proofs.NearLemmas.{within_behind, piece_behind}
 use Rattle.pg_lines.proofs.PartLemmas.{machine_of, part_within}
 use Rattle.pg_lines.proofs.parts.next_part.Goals as goal
 

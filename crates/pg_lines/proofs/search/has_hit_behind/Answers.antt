@@ -5,7 +5,7 @@ use Rattle.pg_pattern.specs.Hits.{HasHit}
 use Rattle.pg_pattern.specs.Tests.{has_hit}
 use Rattle.pg_pattern.proofs.TestLemmas.{hits_decided}
 use Rattle.pg_selection.specs.Search.{bounds_of}
-use Rattle.pg_prefilter.proofs.HeadLemmas.{piece_tells, rest_tells}
+use Rattle.pg_prefilter.proofs.NearLemmas.{piece_tells, rest_tells}
 use Rattle.pg_lines.proofs.PartLemmas.{machine_of}
 use Rattle.pg_lines.proofs.search.has_hit_behind.Goals as goal
 

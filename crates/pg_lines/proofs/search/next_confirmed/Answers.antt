@@ -130,3 +130,19 @@ has_hit-requires-clause-line g c =
     judges_front c.args.query.now.text c.args.bytes.now c.args.strings.now c.requires.ready.strings
     c.text_of-text.result.now
     line.start line.end (omega (arith, next.1)) next.2 text.front text.short
+
+-- the literals of a row are looked for from the same place on
+pub loop-in_vain-preserved-then-give_way : goal.loop-in_vain-preserved-then-give_way
+loop-in_vain-preserved-then-give_way g c =
+    let text = c.args.query.now.text in
+    let i = c.loop-in_vain.invariant in
+    record {
+      fits = i.fits;
+      low = i.low;
+      within = i.within;
+      few = omega arith;
+      needles = c.give_way.ensures.needles text c.args.bytes.now c.loop-in_vain.from c.next_candidate.ensures.needles;
+      some = λ few. c.give_way.ensures.some c.if-give_way.true;
+      short = i.short;
+      skipped = i.skipped;
+    }

@@ -1,9 +1,10 @@
-use Rattle.std.proofs.Common.{List, ◌-◌, ◌<◌, ◌≤◌, length, drop}
+use Rattle.std.proofs.Common.{List, ◌+◌, ◌*◌, ◌-◌, ◌<◌, ◌≤◌, length, drop}
 use Rattle.pg_match.specs.Machines.{Fits}
 use Rattle.pg_blocks.specs.Lines.{AreShort}
 use Rattle.pg_selection.specs.Search.{Pattern, AreTreesOf, search_of, uninverted, terminator_of}
-use Rattle.pg_prefilter.specs.Candidates.{AreNeedles, AreSome}
+use Rattle.pg_prefilter.specs.Candidates.{AreNeedles, AreSome, row_sought}
 use Rattle.pg_prefilter.proofs.CandidateLemmas.{IsSkipped}
+use Rattle.pg_prefilter.proofs.SoughtLemmas.{turns}
 use Rattle.pg_lines.proofs.search.next_confirmed.Given as goal
 
 -- the lines before `from` aren't selected
@@ -21,4 +22,4 @@ invariant-loop-in_vain g l = record {
 }
 
 abbrev pub decreases-loop-in_vain : goal.decreases-loop-in_vain
-decreases-loop-in_vain g l = length l.bytes - l.from
+decreases-loop-in_vain g l = 2 * (length l.bytes - l.from) + turns (row_sought l.needles)

@@ -1,13 +1,23 @@
-use Rattle.std.proofs.Common.{length, arith, subst, sym}
+use Rattle.std.proofs.Common.{length, arith, map, subst, sym}
 use Rattle.std.specs.Prelude.{IfSome}
-use Rattle.pg_prefilter.specs.Literals.{TellHeads}
-use Rattle.pg_prefilter.specs.Strings.{IsHead, IsSetOf, IsSuffixOf}
-use Rattle.pg_prefilter.proofs.JudgeLemmas.{if_some_more, sought_known, strings_known, head_known}
+use Rattle.pg_prefilter.specs.Literals.{AreLiterals, TellHeads, data_of}
+use Rattle.pg_prefilter.specs.Strings.{IsNear, IsReachOf, IsSetOf, IsSuffixOf}
+use Rattle.pg_prefilter.proofs.JudgeLemmas.{if_some_more, sought_known, strings_known, near_known}
 use Rattle.pg_lines.proofs.search.search_by.Goals as goal
 
-pub only_head-requires : goal.only_head-requires
-only_head-requires g c =
+pub near_text-requires-clause-heads : goal.near_text-requires-clause-heads
+near_text-requires-clause-heads g c =
     subst (λ text. TellHeads text c.args.literals.now) (sym c.text-options.ensures.text) c.requires.heads
+
+pub near_text-requires-clause-literals : goal.near_text-requires-clause-literals
+near_text-requires-clause-literals g c =
+    subst (λ text. AreLiterals text (map data_of c.args.literals.now)) (sym c.text-options.ensures.text)
+    c.requires.literals
+
+pub near_text-requires-clause-reach : goal.near_text-requires-clause-reach
+near_text-requires-clause-reach g c =
+    subst (λ text. IfSome c.reach.result (IsReachOf text)) (sym c.text-options.ensures.text)
+    (c.reach.ensures c.args.query.now.text c.prefilter-found.ensures)
 
 pub selected_runs-requires-clause-ready : goal.selected_runs-requires-clause-ready
 selected_runs-requires-clause-ready g c =
@@ -23,11 +33,12 @@ selected_runs-requires-clause-ready g c =
         set = strings_known text bytes searched new.result.searched.now c.args.set c.fixed_strings.result
             new.result.set c.requires.set c.requires.set_searched c.fixed_strings.ensures new.ensures.set
             new.ensures.searched;
-        head = head_known text bytes searched new.result.searched.now c.only_head.result new.result.head
+        near = near_known text bytes searched new.result.searched.now c.near_text.result new.result.near
             (length c.args.literals.now) c.requires.searched
-            (subst (λ t. IfSome c.only_head.result (IsHead t)) c.text-options.ensures.text c.only_head.ensures.head)
-            c.only_head.ensures.some
-            new.ensures.head new.ensures.searched;
+            (subst (λ t. IfSome c.near_text.result (λ near. IsNear t near.finder near.before))
+            c.text-options.ensures.text c.near_text.ensures.near)
+            c.near_text.ensures.some
+            new.ensures.near new.ensures.searched;
         suffix = subst (λ o. IfSome o (λ suffix. IsSuffixOf text suffix.now)) (sym new.ensures.suffix)
             (c.suffix.ensures text c.prefilter-found.ensures);
       };

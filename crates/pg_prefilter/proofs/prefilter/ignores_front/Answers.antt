@@ -1,6 +1,6 @@
 use Rattle.std.proofs.Common.{◌≡◌, Bool, IsTrue, false, map, not, refl, sym, true}
 use Rattle.pg_pattern.specs.Trees.{pattern}
-use Rattle.pg_prefilter.proofs.HeadLemmas.{front_known}
+use Rattle.pg_prefilter.proofs.NearLemmas.{front_known}
 use Rattle.pg_prefilter.proofs.prefilter.ignores_front.Goals as goal
 
 is_false : (answer : Bool) → IsTrue (not answer) → answer ≡ false

@@ -1,7 +1,7 @@
 use Rattle.std.proofs.lemmas.Result.{IfOk-from_err}
 use Rattle.std.proofs.Common.{◌≡◌, ◌<◌, Bool, List, length, map, sym, ap, subst, rules, arith}
 use Rattle.std.specs.Bool.{IsTrue}
-use Rattle.pg_prefilter.proofs.HeadLemmas.{heads_are}
+use Rattle.pg_prefilter.proofs.NearLemmas.{heads_are}
 use Rattle.std.specs.List.{All, AllZip}
 use Rattle.pg_pattern.specs.Trees.{pattern}
 use Rattle.pg_literal.specs.Literals as P

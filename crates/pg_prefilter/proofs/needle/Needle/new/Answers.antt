@@ -1,7 +1,8 @@
-use Rattle.pg_prefilter.proofs.NeedleLemmas.{next_of_all}
+use Rattle.std.proofs.Common.{◌≤◌, arith, false, true≢false, sym}
 use Rattle.pg_prefilter.proofs.needle.Needle.new.Goals as goal
 
 pub returns-clause-ahead : goal.returns-clause-ahead
-returns-clause-ahead g c =
-    let next = next_of_all c.args.searched.now c.new-finder.result c.find-next.result c.find-next.ensures in
-    record { stands = next.0; first = next.1 }
+returns-clause-ahead g c = λ searched. record {
+  stands = λ sought. absurd (true≢false (sym sought));
+  first = λ k low o. omega arith;
+}

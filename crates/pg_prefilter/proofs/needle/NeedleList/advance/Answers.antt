@@ -1,7 +1,6 @@
-use Rattle.std.proofs.Common.{◌<◌, ◌≤◌, length, ◌∙◌, arith}
-use Rattle.std.specs.Option.{IfSome}
+use Rattle.std.proofs.Common.{◌<◌, length, ◌∙◌, arith}
 use Rattle.std.proofs.lemmas.List.Elements.{All-set, AllWithin-more_set}
-use Rattle.pg_prefilter.specs.Candidates.{IsAhead}
+use Rattle.pg_prefilter.specs.Candidates.{IsAhead, IsFoundBehind}
 use Rattle.pg_prefilter.specs.declared.needle.Needle.{Needle}
 use Rattle.pg_prefilter.proofs.NeedleLemmas.{literals_set}
 use Rattle.pg_prefilter.proofs.needle.NeedleList.advance.Goals as goal
@@ -16,10 +15,10 @@ loop-needle-preserved g c =
     let new = c.advance.new.self in
     let says = c.advance.ensures in
     let at = c.args.at in
-    let Behind : Needle → Type 0 = λ n. IfSome n.next (λ place. at ≤ place) in
+    let Found : Needle → Type 0 = IsFoundBehind c.args.self.now.searched.now at in
     record {
       literals = literals_set needles i new old below says.literal
           ∙ c.loop-needle.invariant.literals;
       ahead = All-set (IsAhead c.args.self.now.searched.now at) needles i new says.ahead c.loop-needle.invariant.ahead;
-      behind = AllWithin-more_set needles i new below Behind c.loop-needle.invariant.behind says.behind;
+      found = AllWithin-more_set needles i new below Found c.loop-needle.invariant.found says.found;
     }

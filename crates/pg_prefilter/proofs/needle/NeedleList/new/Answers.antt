@@ -13,7 +13,6 @@ loop-literal-preserved g c =
     let literals = c.args.literals.now in
     let i = c.loop-literal.literal-index in
     let one = c.new.result in
-    let Ahead : Needle → Type 0 = IsAhead c.args.searched.now 0 in
     let joins = c.in_ok-push.ensures.items in
     let own = c.new.ensures.literal ∙ ap data_of c.literal-item.is in
     record {
@@ -22,6 +21,8 @@ loop-literal-preserved g c =
           ∙ (ap (λ ls. ls ++ literal_of one ∷ []) c.loop-literal.invariant.literals
           ∙ (ap (λ l. map data_of (take i literals) ++ l ∷ []) own
           ∙ sym (map_more data_of literals i c.literal-item.result c.loop-literal-test.true))));
-      ahead = subst (λ ns. All Ahead ns) (sym joins)
-          (All-push Ahead needles one c.loop-literal.invariant.ahead c.new.ensures.ahead);
+      ahead = λ bytes.
+          let Ahead : Needle → Type 0 = IsAhead bytes 0 in
+          subst (λ ns. All Ahead ns) (sym joins)
+          (All-push Ahead needles one (c.loop-literal.invariant.ahead bytes) (c.new.ensures.ahead bytes));
     }

@@ -20,7 +20,7 @@ around-requires-clause-place g c =
     let moved = c.advance.new.self in
     let is = ap (λ xs. xs.now) c.advance.ensures.searched ∙ c.requires.needles.searched c.requires.some in
     stands_within c.args.text.now.fold c.args.bytes.now moved.searched.now c.args.at moved.needles.items is
-    c.requires.at c.advance.ensures.ahead c.in_ok-first.first c.in_ok-first.ensures.stands
+    c.requires.at c.advance.ensures.ahead c.in_ok-first.first c.advance.ensures.found c.in_ok-first.ensures.stands
 
 pub returns-clause-within : goal.returns-clause-within
 returns-clause-within g c =
@@ -35,7 +35,7 @@ returns-clause-within g c =
     c.terminator.ensures c.around.ensures.line in
     let least = line_of_least text.fold bytes moved.searched.now at moved.needles.items is c.requires.at
     c.advance.ensures.ahead (terminator_of text) c.in_ok-first.first c.around.result (plain_end text text.fold) alone
-    c.advance.ensures.behind c.in_ok-first.ensures.stands c.in_ok-first.ensures.least
+    c.advance.ensures.found c.in_ok-first.ensures.stands c.in_ok-first.ensures.least
     (sym c.around.ensures.flag) (omega (arith, length-drop at bytes, c.if-at-bytes.false, c.requires.at)) line in
     (omega (arith, line.starts), least.1, least.2)
 
@@ -51,6 +51,6 @@ returns-clause-some g c =
     let line = subst (λ e. IsLineAround e at (drop at bytes) (c.in_ok-first.first.at - at) c.around.result.line)
     c.terminator.ensures c.around.ensures.line in
     (line_of_least text.fold bytes moved.searched.now at moved.needles.items is c.requires.at c.advance.ensures.ahead
-    (terminator_of text) c.in_ok-first.first c.around.result (plain_end text text.fold) alone c.advance.ensures.behind
+    (terminator_of text) c.in_ok-first.first c.around.result (plain_end text text.fold) alone c.advance.ensures.found
     c.in_ok-first.ensures.stands c.in_ok-first.ensures.least (sym c.around.ensures.flag)
     (omega (arith, length-drop at bytes, c.if-at-bytes.false, c.requires.at)) line).0

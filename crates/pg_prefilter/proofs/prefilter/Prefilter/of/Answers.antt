@@ -32,5 +32,6 @@ returns g c =
           c.in_ok-literal_set.ensures.strings c.in_ok-literal_set.ensures.enough);
       suffix = c.in_ok-suffix.ensures;
       front = c.ignores_front-ignores_front.ensures;
+      reach = c.reach_of-reach.ensures;
       row = c.in_ok-row.ensures;
     }

@@ -24,7 +24,7 @@ returns-in-Some-suffix g c = λ trees spelled.
     c.next_suffix.ensures trees (bounds_of c.args.text.now) (own trees spelled)
 
 pub returns-in-None-suffix : goal.returns-in-None-suffix
-returns-in-None-suffix g c = c.next_head.ensures c.args.text.now c.requires.line
+returns-in-None-suffix g c = c.next_near.ensures c.args.text.now c.requires.line
 
-pub next_head-requires-clause-line : goal.next_head-requires-clause-line
-next_head-requires-clause-line g c = if_some_more _ _ c.args.self.now.head (λ head known. known.1) c.requires.line.head
+pub next_near-requires-clause-line : goal.next_near-requires-clause-line
+next_near-requires-clause-line g c = if_some_more _ _ c.args.self.now.near (λ near known. known.1) c.requires.line.near

@@ -1,6 +1,7 @@
--- A text that each hit of a search begins with, and where it stands in a line.
+-- A text that stands near where each hit of a search begins, and where it stands in a line.
 use Rattle.std.proofs.Common.{◌≡◌, ◌↔◌, ◌<◌, ◌≤◌, ◌+◌, ◌-◌, ℕ, zero, suc, Option, Some, None, IsTrue, List, []}
 use Rattle.std.proofs.Common.{◌∷◌, length, get_or, take, drop, slice_range, refl, sym, ap, ◌∙◌, subst, arith}
+use Rattle.std.proofs.Common.{Bool, map, max, length-drop}
 use Rattle.std.specs.Option.{IfSome, MatchOption, is_some}
 use Rattle.std.specs.List.{All}
 use Rattle.std.proofs.lemmas.List.{drop-drop}
@@ -9,16 +10,20 @@ use Rattle.pg_pattern.specs.Tests.{has_hit}
 use Rattle.pg_prefilter.proofs.HitLemmas.{hit_found, hit_missed}
 use Rattle.pg_pattern.specs.Hits.{Hit, HasHit, IsNext, HasNoNext}
 use Rattle.pg_literal.specs.Literals as P
-use Rattle.pg_literal.specs.Literals.{as_searched}
+use Rattle.pg_literal.specs.Literals.{as_searched, Holds}
+use Rattle.pg_literal.specs.Reaches.{IsReach}
 use Rattle.pg_literal.specs.Rests.{IgnoresFront}
 use Rattle.pg_literal.specs.declared.literal.Literal.{Literal}
 use Rattle.pg_literal.proofs.FoldLemmas.{length_searched}
-use Rattle.pg_prefilter.specs.Literals.{TellHeads}
+use Rattle.pg_prefilter.specs.Literals.{AreLiterals, LiteralData, TellHeads, data_of, flagged}
+use Rattle.pg_pattern.specs.declared.bounds.Bounds.TheVariants.{Any}
 use Rattle.pg_selection.specs.Search.{SearchText, Pattern, Bounds, AreTreesOf, bounds_of}
 use Rattle.pg_selection.proofs.TreeLemmas.{same_trees}
-use Rattle.pg_prefilter.specs.Strings.{HitsIgnoreFront, IsHead, FindsPart}
+use Rattle.pg_prefilter.specs.Strings.{HitsIgnoreFront, IsNear, IsReachOf, FindsPart}
 use Rattle.pg_prefilter.specs.declared.strings.NextString.TheVariants.{Nowhere, Behind}
-use Rattle.pg_prefilter.proofs.NeedleLemmas.{next_none, next_some}
+use Rattle.pg_prefilter.proofs.JudgeLemmas.{take_searched}
+use Rattle.pg_prefilter.proofs.NeedleLemmas.{next_none, next_some, occurs_whole, searched_behind}
+use Rattle.pg_prefilter.proofs.StandingLemmas.{take_occurs}
 
 -- what stands behind a place of a part
 drop_take : {X : Type 0} (k n : ℕ) (xs : List X) → k ≤ n → drop k (take n xs) ≡ take (n - k) (drop k xs)
@@ -33,8 +38,9 @@ drop_take (suc k) (suc n) (x ∷ xs) low =
     let left : n - k ≡ suc n - suc k = omega arith in
     drop_take k n xs (omega arith) ∙ ap (λ m. take m (drop k xs)) left
 
-module _ (text : SearchText) (head : List ℕ) (is : IsHead text head) (searched line : List ℕ) (at from : ℕ)
-    (same : slice_range searched at (at + length line) ≡ as_searched text.fold line) (within : from ≤ length line) where
+module _ (text : SearchText) (near : List ℕ) (before : ℕ) (is : IsNear text near before) (searched line : List ℕ)
+    (at from : ℕ) (same : slice_range searched at (at + length line) ≡ as_searched text.fold line)
+    (within : from ≤ length line) where
   abbrev own : List ℕ
   own = as_searched text.fold line
 
@@ -53,23 +59,27 @@ module _ (text : SearchText) (head : List ℕ) (is : IsHead text head) (searched
   low_own = omega (arith, within, length_searched text.fold line)
 
   -- nothing begins where the text stands no more
-  pub head_nowhere : FindsNeedle (slice_range searched (at + from) (at + length line)) head 0 None
+  pub near_nowhere : FindsNeedle (slice_range searched (at + from) (at + length line)) near 0 None
       → (trees : List Pattern) → AreTreesOf text trees → FindsPart trees (bounds_of text) line from Nowhere
-  head_nowhere none trees spelled i j low hit =
-      let F : List ℕ → Type 0 = λ xs. FindsNeedle xs head 0 None in
-      (next_none own head from low_own (subst F rest_of none)).1 i low (is trees spelled line i j hit).1
+  near_nowhere none trees spelled i j low hit =
+      let F : List ℕ → Type 0 = λ xs. FindsNeedle xs near 0 None in
+      let h = is trees spelled line i j hit in
+      (next_none own near from low_own (subst F rest_of none)).1 h.1.0 (omega (arith, low, h.1.1)) h.1.3
 
-  -- nor before the place where it stands next
-  pub head_behind : (place : ℕ) → FindsNeedle (slice_range searched (at + from) (at + length line)) head 0 (Some place)
-      → (trees : List Pattern) → AreTreesOf text trees
-      → FindsPart trees (bounds_of text) line from (Behind (from + place))
-  head_behind place found trees spelled =
-      let F : List ℕ → Type 0 = λ xs. FindsNeedle xs head 0 (Some place) in
-      let next = next_some own head from place low_own (subst F rest_of found) in
-      let fits = next.0.fits in (
-        omega arith,
-        omega (arith, fits, length_searched text.fold line),
-        λ i j low hit. let h = is trees spelled line i j hit in (next.1 i low h.1, h.0),
+  -- nor so many bytes before the place where it stands next
+  pub near_behind : (place next : ℕ) → next ≡ max from (from + place - before)
+      → FindsNeedle (slice_range searched (at + from) (at + length line)) near 0 (Some place)
+      → (trees : List Pattern) → AreTreesOf text trees → FindsPart trees (bounds_of text) line from (Behind next)
+  near_behind place next is_next found trees spelled =
+      let F : List ℕ → Type 0 = λ xs. FindsNeedle xs near 0 (Some place) in
+      let stands = next_some own near from place low_own (subst F rest_of found) in
+      let fits = stands.0.fits in (
+        omega (arith, is_next),
+        omega (arith, is_next, fits, within, length_searched text.fold line),
+        λ i j low hit.
+            let h = is trees spelled line i j hit in
+            let later = stands.1 h.1.0 (omega (arith, low, h.1.1)) h.1.3 in
+            (omega (arith, is_next, low, later, h.1.2), h.0),
       )
 
 module _ (trees : List Pattern) (bounds : Bounds) (line : List ℕ) (from place : ℕ)
@@ -132,6 +142,18 @@ front_known text trees bounds spelled same ignores trees' spelled' =
     subst (λ ts. IgnoresFront ts (bounds_of text)) (same_trees text trees trees' spelled spelled')
     (subst (IgnoresFront trees) same ignores)
 
+-- how far matches of a text's trees reach, where any match counts
+pub reach_of_known : (text : SearchText) (trees : List Pattern) (found : Option ℕ) → AreTreesOf text trees
+    → bounds_of text ≡ Any → IfSome found (IsReach trees) → IfSome found (IsReachOf text)
+reach_of_known text trees None spelled any known = tt
+reach_of_known text trees (Some reach) spelled any known = λ trees' spelled'.
+    (any, subst (λ ts. IsReach ts reach) (same_trees text trees trees' spelled spelled') known)
+
+-- an item of a list of one
+the_one : {X : Type 0} (xs : List X) (x : X) (k : ℕ) (y : X) → k < length xs → get_or xs k y ≡ y → xs ≡ x ∷ [] → y ≡ x
+the_one xs x zero y below same is = sym same ∙ ap (λ ys. get_or ys 0 y) is
+the_one xs x (suc k) y below same is = absurd (omega (arith, ap length is))
+
 -- the literals of a text's patterns
 pub heads_are : {A : Type 0} (text : SearchText) (trees : List Pattern) → AreTreesOf text trees
     → (literals : List (Literal A)) → (0 < length literals → All (λ l. IsTrue l.is_head) literals
@@ -140,23 +162,47 @@ heads_are {A} text trees spelled literals are some all trees' spelled' =
     subst (λ ts. P.AreHeads text.fold ts (bounds_of text) literals) (same_trees text trees trees' spelled spelled')
     (are some all)
 
--- the only one
-pub only_is_head : {A : Type 0} (text : SearchText) (literals : List (Literal A)) (d e : Literal A)
-    → TellHeads text literals → length literals ≡ 1 → IsTrue (get_or literals 0 d).is_head
-    → IsHead text (get_or literals 0 e).text.items
-only_is_head text [] d e tell one head = absurd (omega (arith, one))
-only_is_head {A} text (l ∷ []) d e tell one head = λ trees spelled line i j hit.
-    let h = tell (omega arith) all trees spelled line i j hit in (
-      h.0,
-      subst (λ (m : Literal A). OccursAt (as_searched text.fold line) m.text.items i)
-          (the_one h.1.0 h.1.1 h.1.2 h.1.3) h.1.4,
-    )
-  where
-    all : All (λ (m : Literal A). IsTrue m.is_head) (l ∷ [])
-    all zero f below = head
-    all (suc k) f below = absurd (omega arith)
+module _ (text : SearchText) (needle : List ℕ) (reach : ℕ) (reaches : IsReachOf text reach) (flag : Bool)
+    (are : AreLiterals text (flagged flag needle ∷ [])) (trees : List Pattern) (spelled : AreTreesOf text trees) where
+  -- the only literal stands in each hit
+  stands_within : (line : List ℕ) (i j : ℕ) → Hit trees Any line i j
+      → (place : ℕ) × (i ≤ place) × (place + length needle ≤ j) × OccursAt (as_searched text.fold line) needle place
+  stands_within line i j hit =
+      let known = reaches trees spelled in
+      let HasOwn : Bounds → Type 0 = λ bounds. HasHit trees bounds (slice_range line i j) in
+      let own = subst HasOwn (sym known.0) (known.1.alone line i j hit) in
+      let held = are.needed (omega arith) trees spelled (slice_range line i j) own in
+      let one = the_one (flagged flag needle ∷ []) (flagged flag needle) held.0 held.1 held.2 held.3 refl in
+      let stands = subst (λ (m : LiteralData). Holds text.fold (slice_range line i j) m.text) one held.4 in
+      let low : i ≤ length line = omega (arith, hit.ordered, hit.within) in
+      let rest = drop i (as_searched text.fold line) in
+      let cut : as_searched text.fold (slice_range line i j) ≡ take (j - i) rest =
+      sym (take_searched text.fold (j - i) (drop i line))
+      ∙ ap (take (j - i)) (sym (searched_behind text.fold line (as_searched text.fold line) i refl low)) in
+      let size = length-drop i (as_searched text.fold line) in
+      let long = length_searched text.fold line in
+      let front = take_occurs rest needle stands.0 (j - i) (omega (arith, size, long, hit.within))
+      (subst (λ xs. OccursAt xs needle stands.0) cut stands.1) in (
+        i + stands.0,
+        omega arith,
+        omega (arith, front.1, hit.ordered),
+        occurs_whole (as_searched text.fold line) needle i stands.0 (omega (arith, low, long)) front.0,
+      )
 
-    the_one : (k : ℕ) (m : Literal A) → k < 1 → get_or (l ∷ []) k m ≡ m → m ≡ l
-    the_one zero m below same = sym same
-    the_one (suc k) m below same = absurd (omega arith)
-only_is_head text (l ∷ m ∷ ls) d e tell one head = absurd (omega (arith, one))
+-- so it stands near where each begins, if it isn't empty
+pub reach_is_near : {A : Type 0} (text : SearchText) (literals : List (Literal A)) (e : Literal A) (reach before : ℕ)
+    → AreLiterals text (map data_of literals) → IsReachOf text reach → length literals ≡ 1
+    → 0 < length (get_or literals 0 e).text.items → reach ≡ length (get_or literals 0 e).text.items + before
+    → IsNear text (get_or literals 0 e).text.items before
+reach_is_near text [] e reach before are known one some is = absurd (omega (arith, one))
+reach_is_near text (l ∷ []) e reach before are known one some is = λ trees spelled line i j hit.
+    let needle = l.text.items in
+    let any = known trees spelled in
+    let own = subst (λ bounds. Hit trees bounds line i j) any.0 hit in
+    let whole = stands_within text needle reach known l.is_enough are trees spelled line i j own in
+    let first = any.1.near line i j own in
+    let near = stands_within text needle reach known l.is_enough are trees spelled line i first.0 first.2 in (
+      omega (arith, some, whole.1, whole.2),
+      (near.0, near.1, omega (arith, near.2, first.1, is), near.3),
+    )
+reach_is_near text (l ∷ m ∷ ls) e reach before are known one some is = absurd (omega (arith, one))
