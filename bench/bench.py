@@ -137,6 +137,16 @@ SETS = r"""
 -cE [a-z]+[.](com|org|net)
 """
 
+# Parts with long counts, around a text or without one.
+COUNTS = """
+-oE .{0,100}POST.{0,100}
+-oE .{0,30}POST.{0,30}
+-oE .{0,100}item.{0,20}
+-oE [^"]{0,40}(POST|PUT)[^"]{0,40}
+-oE .{80,}
+-oE a.{0,10}b.{0,10}c
+"""
+
 LISTS = ("-c", "-ci", "-cw", "-cx", "-o", "-cvx")
 
 
@@ -206,7 +216,7 @@ def cases(folder, megabytes):
     write(folder / "letters", b"a" * 20_000 + b"\n")
     yield from split("-oE a*b|a", "letters")
     write(folder / "log", texts.log(20))
-    yield from split(LOG + SETS, "log")
+    yield from split(LOG + SETS + COUNTS, "log")
     write(folder / "pairs", texts.pairs(5))
     yield from split("-cE [A-Z]{3}\n-cE [0-9]{2}:[0-9]", "pairs")
     write(folder / "agents", texts.agents(20))
