@@ -264,7 +264,7 @@ fn next_confirmed<'n, A: Allocator>(
             NextLine::Found(found) => found,
             NextLine::Nowhere => return None,
             NextLine::GaveUp => {
-                if needles.give_way() {
+                if needles.fall_back() {
                     in_vain = 0;
                     continue;
                 }

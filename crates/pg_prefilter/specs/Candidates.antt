@@ -157,6 +157,20 @@ literals_sought (Row row) = []
 literals_sought GivenUp = []
 literals_sought TooSlow = []
 
+-- the literals of many needles, or else of a few
+abbrev pub literals_of_either : {A : Type 0} → Option (NeedleSet A) → Option (NeedleList A) → List LiteralData
+literals_of_either (Some set) list = set_literals set.literals.now
+literals_of_either None (Some list) = map literal_of list.needles.items
+literals_of_either None None = []
+
+-- the literals that may take the place of the row that needles are
+abbrev pub literals_behind : {A : Type 0} → Needles A → List LiteralData
+literals_behind (Few list) = []
+literals_behind (Many set) = []
+literals_behind (Row row) = literals_of_either row.set row.list
+literals_behind GivenUp = []
+literals_behind TooSlow = []
+
 -- the finder whose row they are, if they are one
 abbrev pub row_sought : {A : Type 0} → Needles A → Option (RowFinder A)
 row_sought (Few list) = None

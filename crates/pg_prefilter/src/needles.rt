@@ -1,11 +1,12 @@
 //! What lines with a hit hold, as it is looked for in a block.
-ghost use Rattle.std.specs.Prelude.{◌≡◌, ◌↔◌, ◌<◌, ◌≤◌, ℕ, List, length, map, false, None};
-ghost use Rattle.std.specs.Prelude.{IfOk, IfSome, IsSome, IsTrue};
+ghost use Rattle.std.specs.Prelude.{◌≡◌, ◌↔◌, ◌<◌, ◌≤◌, ℕ, List, [], length, map, false, None, Some};
+ghost use Rattle.std.specs.Prelude.{IfNone, IfOk, IfSome, IsSome, IsTrue};
 ghost use Rattle.pg_prefilter.specs.declared.needles.Needles.TheVariants.{GivenUp, Row};
 ghost use Rattle.pg_literal.specs.Literals.{as_searched};
 ghost use Rattle.pg_selection.specs.Search.{SearchText};
 ghost use Rattle.pg_prefilter.specs.Literals.{AreLiterals, IsRowOf, data_of, set_literals};
-ghost use Rattle.pg_prefilter.specs.Candidates.{AreNeedles, AreSome, IsNextSought, literals_sought, row_sought};
+ghost use Rattle.pg_prefilter.specs.Candidates.{AreNeedles, AreSome, IsNextSought, literals_behind, literals_sought};
+ghost use Rattle.pg_prefilter.specs.Candidates.{row_sought};
 
 use crate::candidate::NextLine;
 use crate::literal_set::LiteralSet;
@@ -101,7 +102,8 @@ impl<'n, A: Allocator> Needles<'n, A> {
 
     /// The row that they are, if they are one.
     fn into_row(self) -> Option<NeedleRow<'n, A>>
-        ensures { IfSome result (λ row. self.entry ≡ Row row) }
+        ensures row { IfSome result (λ row. self.entry ≡ Row row) }
+        ensures none { IfNone result (literals_behind self.entry ≡ []) }
     {
         match self {
             Needles::Row(row) => Some(row),
@@ -109,23 +111,30 @@ impl<'n, A: Allocator> Needles<'n, A> {
         }
     }
 
-    /// Gives up a row, whose literals take its place, if it has some. Tells whether they do.
-    pub fn give_way(&mut self) -> bool
+    /// Gives up a row, and falls back to its literals, if it has some. Tells whether it has.
+    pub fn fall_back(&mut self) -> bool
         ensures needles { (text : SearchText) (bytes : List ℕ) (at : ℕ)
             → AreNeedles text bytes at self.old → AreNeedles text bytes at self.new }
         ensures some { IsTrue result → AreSome self.new }
+        ensures literals { IsTrue result → literals_sought self.new ≡ literals_behind self.old }
         ensures row { IsTrue result → IsSome (row_sought self.old) × (row_sought self.new ≡ None) }
-        ensures none { result ≡ false → self.new ≡ GivenUp }
+        ensures none { result ≡ false → (self.new ≡ GivenUp) × (literals_behind self.old ≡ []) }
     {
         let Some(row) = mem::replace(self, Needles::GivenUp).into_row() else {
             return false;
         };
         let (list, set) = row.into_literals();
-        match (list, set) {
-            (_, Some(set)) => *self = Needles::Many(set),
-            (Some(list), None) if !list.is_empty() => *self = Needles::Few(list),
-            _ => return false,
+        if let Some(set) = set {
+            *self = Needles::Many(set);
+            return true;
         }
+        let Some(list) = list else {
+            return false;
+        };
+        if list.is_empty() {
+            return false;
+        }
+        *self = Needles::Few(list);
         true
     }
 
@@ -137,8 +146,11 @@ impl<'n, A: Allocator> Needles<'n, A> {
             → AreNeedles text bytes at self.old → IfSome row.entry (λ row. IsRowOf text row.now)
             → AreNeedles text bytes at self.new }
         ensures some { IsTrue result → AreSome self.new }
+        ensures literals { IsTrue result → literals_sought self.new ≡ literals_behind self.old }
         ensures row { IsTrue result → IsSome (row_sought self.old) ↔ (row_sought self.new ≡ None) }
-        ensures none { result ≡ false → self.new ≡ GivenUp }
+        ensures given { IfSome row.entry
+            (λ row. 0 < length (literals_sought self.old) → row_sought self.new ≡ Some row.now) }
+        ensures none { result ≡ false → (self.new ≡ GivenUp) × (literals_behind self.old ≡ []) }
     {
         let has_literals = match self {
             Needles::Few(_) | Needles::Many(_) => true,
@@ -149,7 +161,7 @@ impl<'n, A: Allocator> Needles<'n, A> {
                 *self = Needles::Row(NeedleRow::new(row, None, None));
                 true
             }
-            _ => self.give_way(),
+            _ => self.fall_back(),
         }
     }
 
@@ -164,6 +176,7 @@ impl<'n, A: Allocator> Needles<'n, A> {
         ensures some { AreSome self.new }
         ensures literals { literals_sought self.new ≡ literals_sought self.old }
         ensures row { row_sought self.new ≡ row_sought self.old }
+        ensures behind { literals_behind self.new ≡ literals_behind self.old }
         ensures next { IsNextSought text.now self.new at bytes.now result }
     {
         match self {

@@ -132,8 +132,8 @@ has_hit-requires-clause-line g c =
     line.start line.end (omega (arith, next.1)) next.2 text.front text.short
 
 -- the literals of a row are looked for from the same place on
-pub loop-in_vain-preserved-then-give_way : goal.loop-in_vain-preserved-then-give_way
-loop-in_vain-preserved-then-give_way g c =
+pub loop-in_vain-preserved-then-fall_back : goal.loop-in_vain-preserved-then-fall_back
+loop-in_vain-preserved-then-fall_back g c =
     let text = c.args.query.now.text in
     let i = c.loop-in_vain.invariant in
     record {
@@ -141,8 +141,8 @@ loop-in_vain-preserved-then-give_way g c =
       low = i.low;
       within = i.within;
       few = omega arith;
-      needles = c.give_way.ensures.needles text c.args.bytes.now c.loop-in_vain.from c.next_candidate.ensures.needles;
-      some = λ few. c.give_way.ensures.some c.if-give_way.true;
+      needles = c.fall_back.ensures.needles text c.args.bytes.now c.loop-in_vain.from c.next_candidate.ensures.needles;
+      some = λ few. c.fall_back.ensures.some c.if-fall_back.true;
       short = i.short;
       skipped = i.skipped;
     }
