@@ -59,8 +59,8 @@ fn outcome_at(last: Option<usize>, place: usize) -> KnownSpan
 
 impl<A: Allocator> Automaton<A> {
     /// Follows the runs that begin at a place by what is remembered of them, as far as that goes. Answers the row and
-    /// the place that it comes to, and where the last of the spans ends that end up to there. The row of the start is
-    /// known.
+    /// the place that it comes to, and where the last of the spans ends that end up to there. The place is before the
+    /// line's end, and the row of the start is known.
     #[inline(always)]
     pub(crate) fn follow_start(
         &self,

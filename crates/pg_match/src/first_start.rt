@@ -33,8 +33,9 @@ impl<A: Allocator> Automaton<A> {
         Some((next / 256) as usize)
     }
 
-    /// Follows the runs from a start by states, from the set of a place on up to which none of them ended where it may,
-    /// until one does. `None` where none does inside of the line, or too few of `most` visits are left to tell.
+    /// Follows the runs from a start, where a span may begin, by states, from the set of a place on up to which none of
+    /// them ended where it may, until one does. `None` where none does inside of the line, or too few of `most` visits
+    /// are left to tell; not more were made before.
     fn follow_until_end(
         &self,
         sets: &mut StateSets<A>,
@@ -80,7 +81,8 @@ impl<A: Allocator> Automaton<A> {
     }
 
     /// Where the longest span from a start ends, by the runs from the set of a place: on a long line by what is
-    /// remembered. `None` where no visits are to spare for that.
+    /// remembered. `None` where no visits are to spare for that. At most as many states were visited before as there
+    /// are at each byte before the place.
     fn finish_first(
         &self,
         sets: &mut StateSets<A>,
@@ -116,7 +118,8 @@ impl<A: Allocator> Automaton<A> {
 
     /// Where the longest span from a start ends, by the runs that begin there alone: by what is remembered of them, and
     /// behind that by states. `None` where too little is remembered, none of the runs ends where it may, or that can't
-    /// be told by as many visits a state as bytes stand before the start, and one, or two at a line's first place.
+    /// be told by as many visits a state as bytes stand before the start, and one, or two at a line's first place. At
+    /// most as many states were visited before as there are at each byte before the start.
     fn find_first(
         &self,
         sets: &mut StateSets<A>,
@@ -157,7 +160,8 @@ impl<A: Allocator> Automaton<A> {
     }
 
     /// Begins a search at a place, and answers whose place the set is: the place's own, or that behind a line's first
-    /// byte where its row is known.
+    /// byte where its row is known, as `second_row` says. No more was visited than is to spare beside the search, and
+    /// nothing where it begins with the set of a line's first place.
     fn enter_known(
         &self,
         sets: &mut StateSets<A>,

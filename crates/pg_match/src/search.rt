@@ -207,7 +207,8 @@ impl<A: Allocator> Automaton<A> {
 
     /// The best span from a place on, by runs of the automaton, unless the runs of one start alone are left at a place
     /// before `far`, and there are visits to spare: then the best one so far, and the place. The set at hand is that of
-    /// the place `at`, where no span can have ended yet: `from`, or the next one.
+    /// the place `at`, where no span can have ended yet: `from`, or the next one. At most as many states were visited
+    /// as there are at each place up to that one.
     pub(crate) fn find_until(
         &self,
         sets: &mut StateSets<A>,
