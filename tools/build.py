@@ -4,10 +4,11 @@
 Usage: tools/build.py [RT]
 
 The toolchain proves them from nothing, those that don't need one another side by side, in a copy that goes when it is
-done, so that an interrupted build leaves nothing behind. A line is printed for each crate as it is proved. Some
-versions of the toolchain keep on the machine what they have proved, and then only what changed is proved again; where
-nothing changed since the program was built, nothing is done. RT_JOBS says how many proofs run at once, each on one
-processor; without it there are as many as there are processors and memory for.
+done, so that an interrupted build leaves nothing behind. A line is printed for each crate as it is proved. Where the
+toolchain keeps on the machine what it has proved, each library has a run of its own, so that those begin first for
+which others wait longest, and a last run over all of them proves and builds the program; a later build proves only what
+changed. Where nothing changed since the program was built, nothing is done. RT_JOBS says how many proofs run at once,
+each on one processor; without it there are as many as there are processors and memory for.
 """
 
 import hashlib
@@ -18,17 +19,22 @@ import signal
 import subprocess
 import sys
 import tempfile
+import threading
 import time
+from concurrent.futures import FIRST_COMPLETED, ThreadPoolExecutor, wait
 from pathlib import Path
 
 from crates import ROOT, copy_crates, read_crates
 from jobs import jobs_at_once, keep_memory
+from order import by_urgency
 
 PROGRAM = "pargrep"
 BUILT = ROOT / "crates" / PROGRAM / "out" / PROGRAM
 # What the program was built from, beside it.
 STAMP = BUILT.with_suffix(".sum")
 DONE = re.compile(r"rt: (\w+) (proved$|is kept)")
+# What a run over some crates says at its end where a later one begins with what it has proved.
+KEEPS = re.compile(r"(?m)^rt: .* passed, and that is kept")
 
 
 def sum_of(rt, folder):
@@ -40,38 +46,108 @@ def sum_of(rt, folder):
     return found.hexdigest()
 
 
-def proved(rt, folder, count):
-    """Has all in a folder proved and built; shows each crate as it is done."""
-    began, done, said = time.monotonic(), 0, []
-    os.environ["RT_JOBS"] = str(jobs_at_once())
-    keep_memory()
-    with subprocess.Popen([rt, "ci"], cwd=folder, stdout=subprocess.PIPE, stderr=subprocess.STDOUT, text=True) as ci:
-        try:
-            for line in ci.stdout:
+class NotProved(Exception):
+    """What the toolchain said where not all was proved."""
+
+
+class Proofs:
+    """The proofs of the crates in a folder. A line is printed for each as it is proved. What still runs when it is left
+    is ended."""
+
+    def __init__(self, rt, folder, names):
+        self.rt, self.folder, self.names = rt, folder, names
+        self.began, self.done = time.monotonic(), set()
+        self.lock, self.running, self.is_left = threading.Lock(), set(), False
+
+    def __enter__(self):
+        return self
+
+    def __exit__(self, *_):
+        with self.lock:
+            self.is_left = True
+            for it in self.running:
+                it.terminate()
+
+    def started(self, jobs, names):
+        """A run over the crates of these names, or over all, with so many proofs at once."""
+        with self.lock:
+            if self.is_left:
+                raise NotProved("")
+            run = subprocess.Popen(
+                [self.rt, "ci", *names],
+                cwd=self.folder,
+                env={**os.environ, "RT_JOBS": str(jobs)},
+                stdout=subprocess.PIPE,
+                stderr=subprocess.STDOUT,
+                text=True,
+            )
+            self.running.add(run)
+            return run
+
+    def run(self, jobs, *names):
+        """Has the crates of these names proved with all below them, or all crates, and then the program built. Answers
+        what was said of it."""
+        said = []
+        with self.started(jobs, names) as run:
+            for line in run.stdout:
                 said.append(line)
-                found = DONE.match(line)
-                if found:
-                    done += 1
-                    word = "proved" if found[2] == "proved" else "proved before:"
-                    minutes = (time.monotonic() - began) / 60
-                    print(f"{word} {found[1]}, {done} of {count}, after {minutes:.1f} minutes", flush=True)
-        finally:
-            if ci.poll() is None and sys.exc_info()[0]:
-                ci.terminate()
-    if ci.returncode:
-        sys.stderr.write("".join(said))
+                self.tell(DONE.match(line))
+        with self.lock:
+            self.running.remove(run)
+        if run.returncode:
+            raise NotProved("".join(said))
+        return "".join(said)
+
+    def tell(self, found):
+        """Prints a line for a crate that is proved, once."""
+        with self.lock:
+            if found and found[1] not in self.done:
+                self.done.add(found[1])
+                word = "proved" if found[2] == "proved" else "proved before:"
+                minutes = (time.monotonic() - self.began) / 60
+                count = f"{len(self.done)} of {len(self.names)}"
+                print(f"{word} {found[1]}, {count}, after {minutes:.1f} minutes", flush=True)
+
+
+def prove_libraries(pool, proofs, crates, jobs):
+    """Has each library proved as soon as all below it are, so many at once, the most urgent ones first. Ends early
+    where the toolchain doesn't keep what it has proved."""
+    left, proved, running = by_urgency(proofs.names[:-1], crates), set(), {}
+    while left or running:
+        ready = [it for it in left if proved.issuperset(crates[it].below)]
+        for name in ready[: jobs - len(running)]:
+            left.remove(name)
+            running[pool.submit(proofs.run, 1, name)] = name
+        for run in wait(running, return_when=FIRST_COMPLETED).done:
+            proved.add(running.pop(run))
+            if not KEEPS.search(run.result()):
+                left.clear()
+
+
+def prove(rt, folder, names, crates):
+    """Has all crates in a folder proved, and the program built, which is the last one."""
+    jobs = jobs_at_once()
+    keep_memory()
+    try:
+        # What still runs is ended before the pool waits for it.
+        with ThreadPoolExecutor(jobs) as pool, Proofs(rt, folder, names) as proofs:
+            prove_libraries(pool, proofs, crates, jobs)
+            proofs.run(jobs)
+    except NotProved as failure:
+        sys.stderr.write(str(failure))
         sys.exit("pargrep: it was not built; what went wrong stands above")
 
 
 def build(rt):
-    names = [*read_crates()[PROGRAM].below, PROGRAM]
+    crates = read_crates()
+    names = [*crates[PROGRAM].below, PROGRAM]
     with tempfile.TemporaryDirectory(prefix="pargrep-") as folder:
         copy_crates(names, folder)
         now = sum_of(rt, folder)
         if BUILT.is_file() and STAMP.is_file() and STAMP.read_text(encoding="ascii") == now:
             return
         print(f"pargrep: proving {len(names)} crates; README.md says how long that takes", flush=True)
-        proved(rt, folder, len(names))
+        prove(rt, folder, names, crates)
         BUILT.parent.mkdir(exist_ok=True)
         STAMP.unlink(missing_ok=True)
         shutil.copy(Path(folder) / "crates" / PROGRAM / "out" / PROGRAM, BUILT)

@@ -1,5 +1,5 @@
 -- What a search answers, and what it writes.
-use Rattle.std.specs.Prelude.{◌≡◌, ℕ, ◌^◌, ◌⊎◌, Bool, List, [], ◌∷◌, codes, length, drop, reverse}
+use Rattle.std.specs.Prelude.{◌≡◌, ℕ, ◌^◌, ◌⊎◌, Bool, List, length, drop, reverse}
 use Rattle.std.specs.Prelude.{Result, Ok, Err}
 use Rattle.pg_selection.specs.Search.{Search}
 use Rattle.pg_walk.specs.Answers.{Answers as Tree}
@@ -14,18 +14,16 @@ use Rattle.pg_search.specs.Outcome.{SearchBreaksOff}
 use Rattle.pg_search.specs.declared.fault.SearchFault.{SearchFault}
 use Rattle.pg_request.specs.Asked.{Asked, glob_files, has_names, input_name, scope_for, spares_output, text_of_query}
 use Rattle.pg_command.specs.Faults.{fault_of_search}
-use Rattle.pg_request.specs.Operands.{IsDirectory}
+use Rattle.pg_request.specs.Operands.{TellsDirectory}
 use Rattle.pg_request.specs.Reading.{HasRead, FailsToReadAll}
 use Rattle.pg_report.specs.Told.{TellsOfSearch}
 use Rattle.pg_request.specs.declared.fault.Fault.{Fault}
 use Rattle.pg_request.specs.declared.fault.Fault.TheVariants.{OutOfMemory}
 
--- How files are searched and rows look: as asked for, with or without names, in lines of at most 2^30 bytes. A tree
--- that doesn't tell its answers may call anything a directory but standard input.
+-- how files are searched and rows look: as asked for, with or without names, in lines of at most 2^30 bytes
 pub record IsSetup (tells : Type 0) (tree : Tree) (asked : Asked) (setup : Setup) : Type 0 where
   pub directory : Bool
-  pub is_directory : tells → IsDirectory tree asked.files directory
-  pub standard_input : asked.files ≡ codes "-" ∷ [] → directory ≡ Bool.false
+  pub tells_directory : TellsDirectory tells tree asked.files directory
   pub format :
       setup.format ≡ record asked.format { names = has_names asked.names asked.files asked.recursive directory }
   pub silent : setup.silent ≡ asked.silent

@@ -7,10 +7,8 @@
 mod fault;
 mod program;
 mod search;
-mod words;
 
 pub use pg_report::report;
-pub use pg_request::Fault;
+pub use pg_request::{Call, Fault, words_of};
 pub use program::{command, run};
 pub use search::{ToldFault, answer};
-pub use words::{Call, words_of};

@@ -5,11 +5,10 @@ ghost use Rattle.pg_command.specs.Command.{Commands, IsShown, RunsCommand, Tells
 ghost use Rattle.pg_report.specs.Told.{TellsFault};
 
 use crate::search::{ToldFault, answer};
-use crate::words::Call;
 use pg_base::{Out, Sink, write_all};
 use pg_files::{OperandFiles, Store};
 use pg_report::{FAULT_STATUS, report, tell_parts};
-use pg_request::{Fault, request_on};
+use pg_request::{Call, Fault, request_on};
 use pg_walk::Prefetch;
 use pg_words::{HELP, Task, VERSION, Words, WordsFault, read_words};
 use std::alloc::Global;

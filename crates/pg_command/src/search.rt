@@ -1,25 +1,20 @@
 //! The search that a request asks for, over any files and streams.
-ghost use Rattle.std.specs.Prelude.{◌≡◌, ◌≤◌, ◌^◌, [], false, map, IfOk, IfErr, OnOk};
-ghost use Rattle.std.specs.String.{string_bytes};
+ghost use Rattle.std.specs.Prelude.{◌≡◌, ◌≤◌, ◌^◌, [], IfOk, IfErr};
 ghost use Rattle.pg_grammar.specs.Slices.{bytes_of};
-ghost use Rattle.pg_walk.specs.Scopes.{scope_of};
-ghost use Rattle.pg_request.specs.Asked.{asked_of, has_names, input_name, pace_of, scope_for, spares_output};
-ghost use Rattle.pg_command.specs.Answers.{AnswersSearch, Fails, IsSetup, Succeeds};
-ghost use Rattle.pg_request.specs.Reading.{contents_of};
+ghost use Rattle.pg_request.specs.Asked.{asked_of, has_names, pace_of};
+ghost use Rattle.pg_command.specs.Answers.{AnswersSearch, Fails, Succeeds};
 
 use crate::fault::fault_of_search;
 use pg_base::Sink;
-use pg_files::{OperandFiles, STANDARD_INPUT, Store};
+use pg_files::{OperandFiles, Store};
 use pg_report::tell_of_search;
-use pg_request::{
-    Fault, is_directory, operands_of, read_globs, read_patterns, read_scope, text_of,
-};
-use pg_rows::{Format, Mode};
+use pg_request::{Fault, list_files, read_globs, read_patterns, read_scope, text_of};
+use pg_rows::Format;
 use pg_run::{Setup, has_room_for};
 use pg_search::{FreeGate, run};
 use pg_walk::{Prefetch, start_helper};
 use pg_words::{Naming, Request};
-use std::alloc::{AllocError, Global};
+use std::alloc::Global;
 use std::sync::Wait;
 use std::thread;
 use std::thread::Threads;
@@ -111,40 +106,13 @@ fn search<
     let lists = read_patterns(alloc, request.pattern_files.as_slice(), &mut files.store)?;
     let globs = read_globs(alloc, request.filters.as_slice(), &mut files.store)?;
     let text = text_of(alloc, request, lists)?;
-    let setup = list_files(rt, alloc, request, globs.as_slice(), tree, files)?;
+    prefetch(rt, alloc, request, globs.as_slice(), tree);
+    let directory = list_files(alloc, request, globs.as_slice(), tree, files)?;
+    let setup = setup_of(request, directory);
     match run(rt, alloc, text, setup, files, out, err, &FreeGate) {
         Ok(status) => Ok(status),
         Err(fault) => Err(fault_of_search(fault)),
     }
-}
-
-/// Has a walk over the operands listed, and says how that is searched, where the files of globs have these contents. No
-/// directory is listed yet.
-fn list_files<'t, R: Threads, T: Prefetch<Helper: Send + Sync> + Send + Sync, S: Store + Drop>(
-    rt: &R,
-    alloc: Global,
-    request: &Request<'_>,
-    globs: &[Vec<u8>],
-    tree: &'t T,
-    files: &mut OperandFiles<'t, T, S>,
-) -> Result<Setup, AllocError>
-    ensures fresh { OnOk result ((files.new.walk.asked.items ≡ []) × (files.new.done ≡ false)) }
-    ensures store { files.new.store ≡ files.old.store }
-    ensures walk { OnOk result ((files.new.walk.walker.tree.now ≡ tree.now)
-        × (map string_bytes files.new.walk.operands.items ≡ (asked_of request.now).files)
-        × (scope_of files.new.walk.walker.scope ≡ scope_for (asked_of request.now) (contents_of globs.now))) }
-    ensures spares { OnOk result (files.new.spares_output ≡ spares_output request.now.format.mode) }
-    ensures named { OnOk result (string_bytes files.new.input_name ≡ input_name (asked_of request.now)) }
-    ensures setup { IfOk result (IsSetup (T.tells tree.now) (T.answers tree.now) (asked_of request.now)) }
-{
-    let directory = is_directory(tree, request.files.as_slice())?;
-    let operands = operands_of(alloc, request.files.as_slice())?;
-    let scope = read_scope(alloc, request, globs)?;
-    prefetch(rt, alloc, request, globs, tree);
-    let spares = spares_output(request.format.mode);
-    let name = String::from_str(alloc, input_name(request))?;
-    files.list(alloc, tree, operands.as_slice(), scope, spares, name)?;
-    Ok(setup_of(request, directory))
 }
 
 /// How many threads may look ahead in the trees that a request asks for: none where blocks are searched one at a time.
@@ -184,20 +152,6 @@ fn prefetch<R: Threads, T: Prefetch<Helper: Send + Sync> + Send + Sync>(
             break;
         }
     }
-}
-
-/// What standard input is called.
-fn input_name<'a>(request: &Request<'a>) -> &'a str
-    ensures { result.now ≡ input_name (asked_of request.now) }
-{
-    request.label.unwrap_or(STANDARD_INPUT)
-}
-
-/// Whether the output grows with the lines that are read, so that it isn't searched itself.
-fn spares_output(mode: Mode) -> bool
-    ensures { result ≡ spares_output mode }
-{
-    mode.shows_rows()
 }
 
 /// How files are searched, where it is known whether the one operand is a directory.

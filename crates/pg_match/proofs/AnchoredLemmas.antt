@@ -31,6 +31,14 @@ pub nothing_here : (m : Nfa) (l : List ℕ) (s : ℕ) → (MayBegin m.bounds l s
 nothing_here m l s refused = λ i j ge lt less inside run.
     let same : i ≡ s = omega arith in refused (subst (MayBegin m.bounds l) same run.0)
 
+-- where none begins before a place, and none from there on before another, none begins before that
+pub nothing_behind : (m : Nfa) (l : List ℕ) (from mid to : ℕ) → NothingBefore m l from mid → NothingBefore m l mid to
+    → NothingBefore m l from to
+nothing_behind m l from mid to before behind = λ i j ge lt. elim (cases_lt i mid) [
+  | inl early ↦ before i j ge early
+  | inr there ↦ behind i j there lt
+]
+
 -- the best span from a later place on, where none begins before it
 pub best_behind : (m : Nfa) (l : List ℕ) (from start : ℕ) (best : Option (ℕ × ℕ)) → from ≤ start
     → NothingBefore m l from start
@@ -425,6 +433,18 @@ moved m old new is shape k cells past flags ends inside first =
         | inr had ↦ starts_same m true (In old 2) (In new 2) (k.sets 2 had) (is.first had)
       ];
     }
+
+-- a step that is known leads to a row
+pub alone_known : (m : Nfa) (t : Remembered) (r b v : ℕ) → IsAnchoredMemoryOf m t → r ≤ t.count → b < 256
+    → v ≡ get_or t.steps (256 * r + b) v → 256 ≤ v → v / 256 ≤ t.count
+alone_known m t r b v is known lt read big =
+    let inside : 256 * r + b < length t.steps = omega (arith, is.shape.steps_size, known, lt) in
+    let here : v ≡ slice_index t.steps (256 * r + b) = get_or_read t.steps (256 * r + b) v inside read 0 in
+    elim (subst (ToldAlone m t r b) (sym here) (is.told r b known lt)) [
+      | inl unknown ↦ absurd (omega (arith, unknown.0, big))
+      | inr (inl dead) ↦ absurd (omega (arith, dead.0, big))
+      | inr (inr row) ↦ omega (arith, row.1, row.3)
+    ]
 
 -- a set was added to the table, with a flag that says whether state 0 is in it
 pub alone_grown : (m : Nfa) (old new : Remembered) (s : Members) (flag : Bool) → IsAnchoredMemoryOf m old

@@ -1,5 +1,5 @@
 -- What the operands of a request are.
-use Rattle.std.specs.Prelude.{◌≡◌, ℕ, Bool, not, ◌&&◌, List, [], ◌∷◌, Option, Some, None}
+use Rattle.std.specs.Prelude.{◌≡◌, ℕ, Bool, not, ◌&&◌, List, [], ◌∷◌, codes, Option, Some, None}
 use Rattle.pg_walk.specs.Answers.{Answers as Tree}
 use Rattle.pg_walk.specs.Places.{is_standard_input}
 use Rattle.pg_walk.specs.declared.tree.FileKind.{FileKind}
@@ -19,3 +19,8 @@ IsDirectory tree [] directory = directory ≡ Bool.false
 IsDirectory tree (file ∷ []) directory =
     directory ≡ (not (is_standard_input file) && is_directory (tree.kind file Bool.true))
 IsDirectory tree (file ∷ other ∷ files) directory = directory ≡ Bool.false
+
+-- this is told of it; a tree that doesn't tell its answers may call anything a directory but standard input
+pub record TellsDirectory (tells : Type 0) (tree : Tree) (files : List (List ℕ)) (directory : Bool) : Type 0 where
+  pub is : tells → IsDirectory tree files directory
+  pub standard_input : files ≡ codes "-" ∷ [] → directory ≡ Bool.false

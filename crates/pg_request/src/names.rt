@@ -1,8 +1,8 @@
 //! The operands of a request, and whether rows have names.
-ghost use Rattle.std.specs.Prelude.{◌≡◌, ◌∷◌, [], codes, false, map, IfOk};
+ghost use Rattle.std.specs.Prelude.{◌≡◌, map, IfOk};
 ghost use Rattle.std.specs.String.{string_bytes};
 ghost use Rattle.pg_grammar.specs.Slices.{bytes_of};
-ghost use Rattle.pg_request.specs.Operands.{IsDirectory};
+ghost use Rattle.pg_request.specs.Operands.{TellsDirectory};
 
 use pg_walk::{FileKind, FileTree, LookFault};
 use std::alloc::{AllocError, Global};
@@ -14,9 +14,7 @@ use std::alloc::{AllocError, Global};
 ///
 /// Only where a request for memory was refused.
 pub fn is_directory<T: FileTree>(tree: &T, files: &[&str]) -> Result<bool, AllocError>
-    ensures is { T.tells tree.now →
-        IfOk result (IsDirectory (T.answers tree.now) (bytes_of files.now)) }
-    ensures standard_input { bytes_of files.now ≡ codes "-" ∷ [] → IfOk result (λ directory. directory ≡ false) }
+    ensures { IfOk result (TellsDirectory (T.tells tree.now) (T.answers tree.now) (bytes_of files.now)) }
 {
     let [file] = files else {
         return Ok(false);

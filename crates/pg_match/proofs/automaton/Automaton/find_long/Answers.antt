@@ -5,7 +5,7 @@ use Rattle.pg_match.specs.Steps.{Has}
 use Rattle.pg_match.specs.Views.{nfa, members}
 use Rattle.pg_match.proofs.AnchoredLemmas.{best_behind}
 use Rattle.pg_match.proofs.SingleStartLemmas.{visits_spared}
-use Rattle.pg_match.proofs.VisitLemmas.{visits_spare}
+use Rattle.pg_match.proofs.VisitLemmas.{visits_joined, visits_spare}
 use Rattle.pg_match.proofs.automaton.Automaton.find_long.Goals as goal
 
 pub returns-clause-best : goal.returns-clause-best
@@ -46,3 +46,10 @@ returns-clause-visits g c =
     left.1 in
     let spare = subst (λ o. IfSome o (λ p. before + 4 * n ≤ p * n)) c.in-Some-left.is c.find_until-best.ensures.spare in
     visits_spared place (l - place) l n _ _ spare c.finish_anchored.ensures.visits (omega (arith, alone.2.within))
+
+pub returns-in_default-left-clause-visits : goal.returns-in_default-left-clause-visits
+returns-in_default-left-clause-visits g c =
+    let l = length c.args.line.now in
+    let at = c.enter_known-at.result in
+    visits_joined (at + 1) (l - at) (l + 1) (length c.args.self.now.states.items) _ _ c.enter_known-at.ensures.visits
+    c.find_until-best.ensures.visits (omega (arith, c.enter_known-at.ensures.place))

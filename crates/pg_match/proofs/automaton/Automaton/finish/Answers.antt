@@ -3,7 +3,8 @@ use Rattle.pg_match.specs.Memories.{In}
 use Rattle.pg_match.specs.Steps.{Has}
 use Rattle.pg_match.specs.Views.{nfa, members, remembered}
 use Rattle.pg_match.proofs.StateSetLemmas.{few}
-use Rattle.pg_match.proofs.CacheLemmas.{finishes_hit, finishes_end, answers_same, memory_marked_end}
+use Rattle.pg_match.proofs.CacheLemmas.{finishes_hit, finishes_end, settled_finishes, settles_dead, answers_same}
+use Rattle.pg_match.proofs.CacheLemmas.{memory_marked_end}
 use Rattle.pg_match.proofs.automaton.Automaton.finish.Goals as goal
 
 visits_by : (n v w k : ℕ) → w ≤ v + k → k ≤ n → w ≤ v + n
@@ -33,6 +34,18 @@ returns-in-Lost-clause-visits g c =
     let room = c.hits_at_end.ensures.room in
     visits_end _ _ _ c.learn.new.sets.visits u.len w.len c.in-Lost.ensures.visits c.hits_at_end.ensures.visits
     (subst (λ n. w.len ≤ n) room.now_size (few w room.now))
+
+pub returns-in-Dead-clause-visits : goal.returns-in-Dead-clause-visits
+returns-in-Dead-clause-visits g c =
+    let u = members c.learn.new.sets.current in
+    let room = c.in-Dead.ensures.room in
+    visits_by _ _ _ u.len c.in-Dead.ensures.visits (subst (λ n. u.len ≤ n) room.now_size (few u room.now))
+
+pub returns-in-Dead-clause-finishes : goal.returns-in-Dead-clause-finishes
+returns-in-Dead-clause-finishes g c =
+    let m = nfa c.args.self.now in
+    let S = In (remembered c.args.memory.now) (c.args.state / 256) in
+    settled_finishes m c.args.byte S false (settles_dead m c.args.byte S c.in-Dead.ensures.learned)
 
 pub returns-in-Hit-clause-finishes : goal.returns-in-Hit-clause-finishes
 returns-in-Hit-clause-finishes g c =

@@ -41,6 +41,14 @@ finish_uncached-requires-clause-visits g c =
     (omega (arith, c.loop-at.invariant.follows.within, c.requires.short)) (omega arith) in
     omega (arith, seen, c.learn_alone.ensures.visits)
 
+pub finish_uncached-requires-2-clause-visits : goal.finish_uncached-requires-2-clause-visits
+finish_uncached-requires-2-clause-visits g c =
+    let at = c.loop-at.at.place in
+    let seen = visits_since (at - c.args.run.place) (length c.args.self.now.states.items) c.args.sets.now.visits
+    c.loop-at.sets.visits c.loop-at.invariant.visits c.requires.visits
+    (omega (arith, c.loop-at.invariant.follows.within, c.requires.short)) (omega arith) in
+    omega (arith, seen)
+
 pub returns-in_default-clause-longest : goal.returns-in_default-clause-longest
 returns-in_default-clause-longest g c =
     subst (λ s. IsLongestFrom (nfa c.args.self.now) c.args.line.now s c.finish_uncached.result)

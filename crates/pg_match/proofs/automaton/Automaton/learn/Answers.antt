@@ -172,6 +172,21 @@ returns-then-index-eq-HIT-clause-learned g c =
       ]
     ]
 
+pub returns-then-index-eq-DEAD-clause-learned : goal.returns-then-index-eq-DEAD-clause-learned
+returns-then-index-eq-DEAD-clause-learned g c =
+    let mem = remembered c.args.memory.now in
+    let steps : 256 * (mem.count + 1) ≤ length mem.steps = c.requires.memory.shape.steps_size in
+    let known = c.requires.known in
+    let read = get_or_read mem.steps (256 * c.args.row + c.args.byte) c.index-2.result.now (omega arith)
+    c.index-2.ensures 0 in
+    elim (c.requires.memory.told c.args.row c.args.byte c.requires.known (omega arith)) [
+      | inl unknown ↦ absurd (unknown.2 (sym read ∙ c.if-index-eq-DEAD.true))
+      | inr rest ↦ elim rest [
+        | inl hit ↦ absurd (omega (arith, hit.0))
+        | inr more ↦ elim more [ inl dead ↦ dead.1 | inr go ↦ absurd (omega (arith, go.1, go.2)) ]
+      ]
+    ]
+
 pub returns-then-is_dead-clause-memory : goal.returns-then-is_dead-clause-memory
 returns-then-is_dead-clause-memory g c =
     let m = nfa c.args.self.now in

@@ -1,9 +1,11 @@
-use Rattle.std.proofs.Common.{◌≤◌, arith, refl, inl, inr}
+use Rattle.std.proofs.Common.{◌≤◌, arith, refl, inl, inr, subst}
 use Rattle.pg_match.specs.Memories.{In}
 use Rattle.pg_match.specs.Steps.{Has}
 use Rattle.pg_match.specs.Views.{nfa, members, remembered}
-use Rattle.pg_match.proofs.AnchoredLemmas.{alone_marked, told_alone, gone_alone, read_by_none, none_same}
+use Rattle.pg_match.proofs.StateSetLemmas.{few}
+use Rattle.pg_match.proofs.AnchoredLemmas.{alone_known, alone_marked, told_alone, gone_alone, read_by_none, none_same}
 use Rattle.pg_match.proofs.CacheLemmas.{keeps_on, mark_keeps, same_back}
+use Rattle.pg_match.proofs.VisitLemmas.{visited}
 use Rattle.pg_match.proofs.automaton.Automaton.learn_alone.Goals as goal
 
 pub returns-then-sets-eq0-clause-memory : goal.returns-then-sets-eq0-clause-memory
@@ -59,3 +61,20 @@ returns-clause-keeps g c =
     let new = remembered c.mark-2.new.self in
     keeps_on (remembered c.args.memory.now) mid new c.keep_alone-to.ensures.keeps
     (mark_keeps mid new _ _ c.mark-2.ensures.marked)
+
+pub returns-then-step-ge256-clause-known : goal.returns-then-step-ge256-clause-known
+returns-then-step-ge256-clause-known g c =
+    alone_known (nfa c.args.self.now) (remembered c.args.memory.now) c.args.row c.args.byte c.index-step.result.now
+    c.requires.memory c.requires.known c.ranges.byte.fits c.index-step.ensures (omega (arith, c.if-step-ge256.true))
+
+pub returns-then-to-eq0-clause-visits : goal.returns-then-to-eq0-clause-visits
+returns-then-to-eq0-clause-visits g c =
+    let u = members c.go_on.new.sets.current in
+    let room = c.go_on.ensures.room in
+    visited _ _ u.len _ c.go_on.ensures.visits (subst (λ n. u.len ≤ n) room.now_size (few u room.now))
+
+pub returns-clause-visits : goal.returns-clause-visits
+returns-clause-visits g c =
+    let u = members c.go_on.new.sets.current in
+    let room = c.go_on.ensures.room in
+    visited _ _ u.len _ c.go_on.ensures.visits (subst (λ n. u.len ≤ n) room.now_size (few u room.now))

@@ -2,7 +2,7 @@
 ghost use Rattle.std.specs.Prelude.{◌≡◌, ◌⊎◌, IfErr};
 ghost use Rattle.pg_request.specs.declared.fault.Fault.TheVariants.{NotText, OutOfMemory};
 
-use pg_request::Fault;
+use crate::fault::Fault;
 use std::env;
 use std::io::ErrorKind;
 use std::rt::Env;
