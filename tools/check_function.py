@@ -1,11 +1,14 @@
 #!/usr/bin/env python3
-"""Checks some functions of a crate by themselves: `tools/check_function.py CRATE FUNCTION..`
+"""Checks some functions of a crate by themselves: `tools/check_function.py [--margin] CRATE FUNCTION..`
 
 A FUNCTION is named as a check shows it below its crate, `Cutter::feed` or `cutter::cut_open`. All other functions of
 the crate are stubs, of which only contracts are seen, so it takes half a minute where `rt check --only`, which proves
 what they call too, may take as long as the whole crate. It gives no verdict on the crate: `rt check` does. The crates
 below are proved first where the toolchain hasn't kept them. What is printed is what the check says, without the stubs'
 holes; the status is 0 only where each function is proved but for these.
+
+With --margin the prover's search may take half as much for a goal. A goal that stays open so is a slow one, and may
+stay open without it too when something else changes: it is best given an answer.
 """
 
 import re
@@ -36,18 +39,20 @@ def named_functions(crate, names):
 
 
 def main():
-    if len(sys.argv) < 3:
+    flags = [it for it in sys.argv[1:] if it == "--margin"]
+    name, *functions = [it for it in sys.argv[1:] if it not in flags] or [""]
+    if not functions:
         sys.exit(__doc__)
     crates = read_crates()
-    if sys.argv[1] not in crates:
-        sys.exit(f"check_function: there is no crate {sys.argv[1]}")
-    crate = crates[sys.argv[1]]
-    functions = named_functions(crate, sys.argv[2:])
+    if name not in crates:
+        sys.exit(f"check_function: there is no crate {name}")
+    crate = crates[name]
+    functions = named_functions(crate, functions)
     # Checked modules alone, and no text, so that nothing with a hole stays in the checkout.
-    kept = crate.folder() / "out" / "among-stubs"
+    kept = crate.folder() / "out" / "".join(["among-stubs", *flags])
     kept.mkdir(parents=True, exist_ok=True)
     with built(crate.below, jobs_at_once()) as over:
-        said = Prover(Path(over)).check(crate, kept, {}, functions)
+        said = Prover(Path(over)).check(crate, kept, {}, functions, flags)
     # A message goes on in the indented lines below it.
     for message in filter(None, re.split(r"\n(?! )", said.output)):
         if not NOISE.match(message):

@@ -60,11 +60,11 @@ class Prover:
         words += ["--antt-project", f"{self.home}/rattle/logic/antt-project.json"]
         return [*words, "--logic-built", f"{self.home}/logic_built", "--jobs", "1"]
 
-    def check(self, crate, kept, texts, real):
+    def check(self, crate, kept, texts, real, flags=()):
         """Checks a copy of the crate with these texts in place of its own: some functions among stubs of all others, or
         the whole crate where none are given. The copy goes when that is done. What earlier checks left in the folder
         `kept` isn't checked again."""
-        words = [*self.words(crate), "--incremental", str(kept.absolute())]
+        words = [*self.words(crate), *flags, "--incremental", str(kept.absolute())]
         with tempfile.TemporaryDirectory(prefix="check-") as room:
             folder = Path(room)
             for part in PARTS:
