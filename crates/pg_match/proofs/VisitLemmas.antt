@@ -1,6 +1,7 @@
 -- How many visits a search comes to, and that they fit into a number.
-use Rattle.std.proofs.Common.{◌≡◌, ℕ, ◌+◌, ◌-◌, ◌*◌, ◌^◌, ◌<◌, ◌≤◌, sym, subst, arith}
+use Rattle.std.proofs.Common.{◌≡◌, ℕ, zero, suc, ◌+◌, ◌-◌, ◌*◌, ◌^◌, ◌<◌, ◌≤◌, max, sym, subst, arith}
 use Rattle.std.proofs.Math.Nat.{add-mul, mul-le-mul_left}
+use Rattle.pg_match.specs.Anchored.{spared}
 
 pub visits_small : (p n v : ℕ) → v ≤ (p + 1) * n → p ≤ 2 ^ 30 → n < 2 ^ 64 → v < 2 ^ 98
 visits_small p n v le short few = let less : n ≤ 2 ^ 64 = omega arith in omega (arith, mul-le-mul_left (p + 1) less)
@@ -70,3 +71,24 @@ product_fits p n size same short few =
 
 pub told_on : (u v w a b d : ℕ) → v + a ≡ u + b → w + b ≡ v + d → w + a ≡ u + d
 told_on u v w a b d first next = omega arith
+
+-- what a search may visit before it begins
+pub spared_more : (start n v : ℕ) → v ≤ start * n → v ≤ spared start * n
+spared_more zero n v le = omega (arith, le)
+spared_more (suc s) n v le =
+    let less : suc s ≤ spared (suc s) = omega arith in omega (arith, le, mul-le-mul_left n less)
+
+spared_is : (start m : ℕ) → m ≡ max start 1 → m + 1 ≡ spared start
+spared_is zero m is = omega (arith, is)
+spared_is (suc s) m is = omega (arith, is)
+
+pub most_more : (start m n size v : ℕ) → size ≡ n → m ≡ max start 1 → v ≤ start * n → v ≤ (m + 1) * size
+most_more start m n size v same is le =
+    subst (λ k. v ≤ (m + 1) * k) (sym same) (subst (λ k. v ≤ k * n) (sym (spared_is start m is))
+    (spared_more start n v le))
+
+pub most_fits : (start m n size : ℕ) → size ≡ n → m ≡ max start 1 → start ≤ 2 ^ 30 → n < 2 ^ 64
+    → (m + 1) * size < 2 ^ 97
+most_fits start m n size same is short few =
+    let less : n ≤ 2 ^ 64 = omega arith in
+    subst (λ k. (m + 1) * k < 2 ^ 97) (sym same) (omega (arith, is, mul-le-mul_left (m + 1) less))

@@ -1,11 +1,11 @@
-use Rattle.std.proofs.Common.{◌/◌, ◌-◌, ◌+◌, ◌<◌, ◌≤◌, arith, length, subst}
+use Rattle.std.proofs.Common.{◌/◌, ◌-◌, ◌+◌, ◌<◌, ◌≤◌, ◌∙◌, arith, length, subst}
 use Rattle.pg_match.specs.Anchored.{IsLastEnd}
 use Rattle.pg_match.specs.Memories.{In}
 use Rattle.pg_match.specs.Steps.{Has}
 use Rattle.pg_match.specs.Views.{nfa, members, remembered}
 use Rattle.pg_match.proofs.AnchoredLemmas.{start_row_few}
 use Rattle.pg_match.proofs.SingleStartLemmas.{stands_same}
-use Rattle.pg_match.proofs.VisitLemmas.{visits_joined}
+use Rattle.pg_match.proofs.VisitLemmas.{most_fits, most_more, spared_more, visits_joined}
 use Rattle.pg_match.proofs.automaton.Automaton.find_first.Goals as goal
 
 pub returns-in-Some-clause-visits : goal.returns-in-Some-clause-visits
@@ -34,3 +34,27 @@ follow_until_end-requires-clause-stands g c =
     stands_same (nfa c.args.self.now) c.args.line.now c.args.start f.result.1
     (In (remembered c.args.memory.now) (f.result.0 / 256)) (Has (members c.load.new.set)) c.load.ensures.same
     f.ensures.stands
+
+pub overflow_mul-most : goal.overflow_mul-most
+overflow_mul-most g c =
+    let states = c.args.self.now.states in
+    let size = states.ok.0 in
+    let fits = most_fits c.args.start c.max.result (length states.items) c.len.result (c.len.ensures ∙ size)
+    c.max.ensures (omega (arith, c.requires.start_in, c.requires.short)) (omega arith) in
+    omega (arith, fits)
+
+pub follow_until_end-requires-clause-visits : goal.follow_until_end-requires-clause-visits
+follow_until_end-requires-clause-visits g c =
+    let states = c.args.self.now.states in
+    let size = states.ok.0 in
+    let same = c.len.ensures ∙ size in (
+      most_more c.args.start c.max.result (length states.items) c.len.result _ same c.max.ensures c.requires.visits,
+      most_fits c.args.start c.max.result (length states.items) c.len.result same c.max.ensures
+          (omega (arith, c.requires.start_in, c.requires.short)) (omega arith),
+    )
+
+pub returns-then-not-may_begin-clause-spared : goal.returns-then-not-may_begin-clause-spared
+returns-then-not-may_begin-clause-spared g c = spared_more c.args.start _ _ c.requires.visits
+
+pub returns-then-start-line-clause-spared : goal.returns-then-start-line-clause-spared
+returns-then-start-line-clause-spared g c = spared_more c.args.start _ _ c.requires.visits
