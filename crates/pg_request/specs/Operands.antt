@@ -20,7 +20,8 @@ IsDirectory tree (file ∷ []) directory =
     directory ≡ (not (is_standard_input file) && is_directory (tree.kind file Bool.true))
 IsDirectory tree (file ∷ other ∷ files) directory = directory ≡ Bool.false
 
--- this is told of it; a tree that doesn't tell its answers may call anything a directory but standard input
+-- what is told of the one operand: whether it is a directory; where a tree doesn't tell its answers, anything may be
+-- called one but standard input
 pub record TellsDirectory (tells : Type 0) (tree : Tree) (files : List (List ℕ)) (directory : Bool) : Type 0 where
   pub is : tells → IsDirectory tree files directory
   pub standard_input : files ≡ codes "-" ∷ [] → directory ≡ Bool.false
