@@ -106,8 +106,8 @@ fn search<
     let lists = read_patterns(alloc, request.pattern_files.as_slice(), &mut files.store)?;
     let globs = read_globs(alloc, request.filters.as_slice(), &mut files.store)?;
     let text = text_of(alloc, request, lists)?;
-    prefetch(rt, alloc, request, globs.as_slice(), tree);
     let directory = list_files(alloc, request, globs.as_slice(), tree, files)?;
+    prefetch(rt, alloc, request, globs.as_slice(), tree);
     let setup = setup_of(request, directory);
     match run(rt, alloc, text, setup, files, out, err, &FreeGate) {
         Ok(status) => Ok(status),

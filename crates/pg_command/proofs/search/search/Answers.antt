@@ -50,7 +50,7 @@ returns-clause-fault g c =
     let first = first_sought tree start.walk.walker.tree.now asked globs start.walk.asked.items
     (map string_bytes start.walk.operands.items) (scope_of start.walk.walker.scope) start.spares_output
     (string_bytes start.input_name) (g.S.Store.past start.store) between listed.fresh.0 listed.walk.0 listed.walk.1
-    (listed.walk.2 ∙ ap (λ vs. scope_for asked (contents_of vs)) c.as_slice-4.ensures.value) listed.spares
+    (listed.walk.2 ∙ ap (λ vs. scope_for asked (contents_of vs)) c.as_slice-3.ensures.value) listed.spares
     listed.named (ap g.S.Store.past listed.store) in
     let at = sought files.walk.walker.tree.now (map string_bytes files.walk.operands.items)
     (scope_of files.walk.walker.scope)
@@ -110,7 +110,7 @@ returns-in-Ok-clause-success g c =
     let first = first_sought tree start.walk.walker.tree.now asked globs start.walk.asked.items
     (map string_bytes start.walk.operands.items) (scope_of start.walk.walker.scope) start.spares_output
     (string_bytes start.input_name) (g.S.Store.past start.store) between listed.fresh.0 listed.walk.0 listed.walk.1
-    (listed.walk.2 ∙ ap (λ vs. scope_for asked (contents_of vs)) c.as_slice-4.ensures.value) listed.spares
+    (listed.walk.2 ∙ ap (λ vs. scope_for asked (contents_of vs)) c.as_slice-3.ensures.value) listed.spares
     listed.named (ap g.S.Store.past listed.store) in
     let at = sought files.walk.walker.tree.now (map string_bytes files.walk.operands.items)
     (scope_of files.walk.walker.scope)
