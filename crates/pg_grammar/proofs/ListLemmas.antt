@@ -139,8 +139,8 @@ no-memory-place : (kind : Kind) (k : FaultKind) (text : List ℕ) (at : ℕ) →
 no-memory-place kind k text at e h = go kind (subst (λ x. Place kind x text at) e h)
   where
     go : (kind : Kind) → Place kind OutOfMemory text at → ⊥
-    go K.Basic h = h
-    go K.Extended h = h
+    go K.Basic h = h.2
+    go K.Extended h = h.2
     go K.Fixed h = let e = h.0 in cc
 
 -- the one fault of this kind is a refused growth

@@ -46,18 +46,18 @@ pub record HasNoEnd (text : List ℕ) (at : ℕ) : Type 0 where
   pub opens : OpensBracket (drop at text) elements
   pub none : (inside rest : List ℕ) (es : List Element) → Inside true inside es → elements ≡ inside ++ rest → ⊥
 
--- The elements of a bracket that begins before are read up to this offset, and this is the next one. Only the first one
--- can be a `]`, which else closes the bracket.
-abbrev pub StandsInBracket : List ℕ → ℕ → Element → Type 0
-StandsInBracket text at e = (bracket : ℕ) × (elements : List ℕ) × (first : Bool)
+-- The elements of the bracket that begins at the first offset are read up to the second one, where this is the next
+-- one. Only the first one can be a `]`, which else closes the bracket.
+abbrev pub StandsInBracket : List ℕ → (bracket at : ℕ) → Element → Type 0
+StandsInBracket text bracket at e = (elements : List ℕ) × (first : Bool)
     × OpensBracket (drop bracket text) elements × ReadsUpTo elements first (drop at text)
     × ((first ≡ true) ⊎ (e ≢ Single 93))
 
 -- an element that this mark encloses stands at this offset, inside a bracket, and stands for no bytes
-pub record IsBadElement (mark : ℕ) (text : List ℕ) (at : ℕ) : Type 0 where
+pub record IsBadElement (mark : ℕ) (text : List ℕ) (bracket at : ℕ) : Type 0 where
   pub content : List ℕ
   pub rest : List ℕ
-  pub inside : StandsInBracket text at (Enclosed mark content)
+  pub inside : StandsInBracket text bracket at (Enclosed mark content)
   pub front : IsFront (Enclosed mark content) (drop at text) rest
   pub nothing : member (Enclosed mark content) ≡ None
 
@@ -72,17 +72,17 @@ pub record IsRangedOn (text : List ℕ) : Type 0 where
 
 -- An element, a `-` and one more element stand at this offset of a text, inside a bracket, and this follows them. The
 -- second one is no `]`, which would close the bracket.
-pub record HasRange (text : List ℕ) (at : ℕ) (low high : Element) (rest : List ℕ) : Type 0 where
-  pub inside : StandsInBracket text at low
+pub record HasRange (text : List ℕ) (bracket at : ℕ) (low high : Element) (rest : List ℕ) : Type 0 where
+  pub inside : StandsInBracket text bracket at low
   pub from : List ℕ
   pub begins : IsFront low (drop at text) (45 ∷ from)
   pub ends : IsFront high from rest
   pub inner : high ≢ Single 93
 
--- at this offset a range begins that no range can be, or behind which another one would begin
-abbrev pub IsBadRange : List ℕ → ℕ → Type 0
-IsBadRange text at =
-    (low high : Element) × (rest : List ℕ) × HasRange text at low high rest × (HaveNoRange low high ⊎ IsRangedOn rest)
+-- at this offset of a bracket a range begins that no range can be, or behind which another one would begin
+abbrev pub IsBadRange : List ℕ → (bracket at : ℕ) → Type 0
+IsBadRange text bracket at = (low high : Element) × (rest : List ℕ) × HasRange text bracket at low high rest
+    × (HaveNoRange low high ⊎ IsRangedOn rest)
 
 -- what closes this many groups
 abbrev pub closings : Syntax → ℕ → List ℕ
@@ -105,31 +105,49 @@ pub record LeavesEmpty (syntax : Syntax) (text : List ℕ) : Type 0 where
   pub pattern : Pattern
   pub filled : Body syntax fold (text ++ 97 ∷ []) pattern 0
 
--- What stands where an expression has a fault of this kind: a backslash at the end, before a byte whose escape has no
--- meaning, or before a digit from 1 to 9; a `[` that begins no bracket; in a bracket, an element that stands for no
--- bytes, or a range that can't be; what opens an interval, but begins none; what opens a group where more than 99 are
--- open; or the end of a text that leaves a group open, or its last alternative empty. Of what closes a group, of what
--- repeats, and of a bar, the bytes alone are told. No text is at fault for want of memory.
+-- one more byte, an `a`, and what closes its open groups, make the front of a text an expression
+pub record CanGoOn (syntax : Syntax) (front : List ℕ) : Type 0 where
+  pub fold : Bool
+  pub groups : ℕ
+  pub pattern : Pattern
+  pub closed : Body syntax fold (front ++ 97 ∷ closings syntax groups) pattern 0
+
+-- What stands where an expression has a fault of this kind, in the token that begins at the first offset: a backslash
+-- at the end, before a byte whose escape has no meaning, or before a digit from 1 to 9; a `[` that begins no bracket;
+-- in a bracket, an element that stands for no bytes, or a range that can't be; what opens an interval, but begins none;
+-- what opens a group where more than 99 are open; or the end of a text that leaves a group open, or its last
+-- alternative empty. Of what closes a group, of what repeats, and of a bar, the bytes alone are told. No text is at
+-- fault for want of memory.
+abbrev pub PlaceInToken : Syntax → FaultKind → List ℕ → (token at : ℕ) → Type 0
+PlaceInToken syntax TrailingBackslash text token at = (at ≡ token) × (drop at text ≡ 92 ∷ [])
+PlaceInToken syntax BadEscape text token at =
+    (at ≡ token) × (b : ℕ) × HasNoMeaning syntax b × Stands text at (92 ∷ b ∷ [])
+PlaceInToken syntax BackReference text token at =
+    (at ≡ token) × (d : ℕ) × (49 ≤ d) × (d ≤ 57) × Stands text at (92 ∷ d ∷ [])
+PlaceInToken syntax UnmatchedBracket text token at = (at ≡ token) × HasNoEnd text at
+PlaceInToken syntax BadClass text token at = IsBadElement 58 text token at
+PlaceInToken syntax BadCollating text token at = IsBadElement 61 text token at ⊎ IsBadElement 46 text token at
+PlaceInToken syntax BadRange text token at = IsBadRange text token at
+PlaceInToken syntax UnmatchedGroup text token at = (at ≡ token)
+    × (((syntax ≡ Basic) × Stands text at (closing Basic)) ⊎ ((at ≡ length text) × LeavesOpen syntax 0 text))
+PlaceInToken syntax BadInterval text token at = (at ≡ token) × HasNoInterval syntax text at
+PlaceInToken Basic NothingToRepeat text token at =
+    (at ≡ token) × (Stands text at (42 ∷ []) ⊎ Stands text at (brace Basic))
+PlaceInToken Extended NothingToRepeat text token at = (at ≡ token)
+    × (b : ℕ) × ((b ≡ 42) ⊎ ((b ≡ 43) ⊎ ((b ≡ 63) ⊎ (b ≡ 123)))) × Stands text at (b ∷ [])
+PlaceInToken syntax EmptyOperand text token at = (at ≡ token)
+    × (Stands text at (closing syntax)
+    ⊎ (((syntax ≡ Extended) × Stands text at (124 ∷ [])) ⊎ ((at ≡ length text) × LeavesEmpty syntax text)))
+PlaceInToken syntax TooDeep text token at =
+    (at ≡ token) × Stands text at (opening syntax) × LeavesOpen syntax 99 (take at text)
+PlaceInToken syntax OutOfMemory text token at = ⊥
+PlaceInToken syntax TooLong text token at = IsPastLongest text at
+
+-- A fault of this kind can stand at this offset of a text: its token, or the text's end, stands behind a front that
+-- can go on.
 abbrev pub PlaceIn : Syntax → FaultKind → List ℕ → ℕ → Type 0
-PlaceIn syntax TrailingBackslash text at = drop at text ≡ 92 ∷ []
-PlaceIn syntax BadEscape text at = (b : ℕ) × HasNoMeaning syntax b × Stands text at (92 ∷ b ∷ [])
-PlaceIn syntax BackReference text at = (d : ℕ) × (49 ≤ d) × (d ≤ 57) × Stands text at (92 ∷ d ∷ [])
-PlaceIn syntax UnmatchedBracket text at = HasNoEnd text at
-PlaceIn syntax BadClass text at = IsBadElement 58 text at
-PlaceIn syntax BadCollating text at = IsBadElement 61 text at ⊎ IsBadElement 46 text at
-PlaceIn syntax BadRange text at = IsBadRange text at
-PlaceIn syntax UnmatchedGroup text at =
-    ((syntax ≡ Basic) × Stands text at (closing Basic)) ⊎ ((at ≡ length text) × LeavesOpen syntax 0 text)
-PlaceIn syntax BadInterval text at = HasNoInterval syntax text at
-PlaceIn Basic NothingToRepeat text at = Stands text at (42 ∷ []) ⊎ Stands text at (brace Basic)
-PlaceIn Extended NothingToRepeat text at =
-    (b : ℕ) × ((b ≡ 42) ⊎ ((b ≡ 43) ⊎ ((b ≡ 63) ⊎ (b ≡ 123)))) × Stands text at (b ∷ [])
-PlaceIn syntax EmptyOperand text at =
-    Stands text at (closing syntax)
-    ⊎ (((syntax ≡ Extended) × Stands text at (124 ∷ [])) ⊎ ((at ≡ length text) × LeavesEmpty syntax text))
-PlaceIn syntax TooDeep text at = Stands text at (opening syntax) × LeavesOpen syntax 99 (take at text)
-PlaceIn syntax OutOfMemory text at = ⊥
-PlaceIn syntax TooLong text at = IsPastLongest text at
+PlaceIn syntax kind text at =
+    (token : ℕ) × CanGoOn syntax (take token text) × PlaceInToken syntax kind text token at
 
 -- A fault of this kind can stand at this offset of a text. A fixed string can only be too long.
 abbrev pub Place : Kind → FaultKind → List ℕ → ℕ → Type 0

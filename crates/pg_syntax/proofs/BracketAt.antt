@@ -88,9 +88,10 @@ no_symbol e mark content h m n = ap member h ∙ (ap (λ k. member (Enclosed k c
     ∙ ap (option_and_then (λ b. Some (one b))) n)
 
 -- an element ends a range
-pub ends_range : (text : List ℕ) (start at : ℕ) (a b : Read) (rest : List ℕ) → Holds text start a (45 ∷ drop at text)
-    → Holds text at b rest → V.element b ≢ Single 93 → HasRange text start (V.element a) (V.element b) rest
-ends_range text start at a b rest h k n = record {
+pub ends_range : (text : List ℕ) (bracket start at : ℕ) (a b : Read) (rest : List ℕ)
+    → Holds text bracket start a (45 ∷ drop at text) → Holds text bracket at b rest → V.element b ≢ Single 93
+    → HasRange text bracket start (V.element a) (V.element b) rest
+ends_range text bracket start at a b rest h k n = record {
   inside = h.inside;
   from = drop at text;
   begins = h.front;
@@ -99,9 +100,10 @@ ends_range text start at a b rest h k n = record {
 }
 
 -- a range can't go on with another one
-pub ranged_on : (text : List ℕ) (start at : ℕ) (b : Read) (rest : List ℕ) → EndsRange text start (45 ∷ drop at text)
-    → Holds text at b rest → V.element b ≢ Single 93 → IsBadRange text start
-ranged_on text start at b rest (inl h) k n = (
+pub ranged_on : (text : List ℕ) (bracket start at : ℕ) (b : Read) (rest : List ℕ)
+    → EndsRange text bracket start (45 ∷ drop at text) → Holds text bracket at b rest → V.element b ≢ Single 93
+    → IsBadRange text bracket start
+ranged_on text bracket start at b rest (inl h) k n = (
   h.0,
   h.1,
   45 ∷ drop at text,
@@ -115,19 +117,19 @@ ranged_on text start at b rest (inl h) k n = (
     inner = n;
   }),
 )
-ranged_on text start at b rest (inr h) k n = h
+ranged_on text bracket start at b rest (inr h) k n = h
 
-pub behind_dash : (mode : Mode) (text : List ℕ) (start at : ℕ) (a b : Read) (rest : List ℕ) → mode ≡ M.Dashed start a
-    → GoesOn text mode at b rest → V.element b ≢ Single 93
-behind_dash mode text start at a b rest m g = other g.inner
+pub behind_dash : (mode : Mode) (text : List ℕ) (bracket start at : ℕ) (a b : Read) (rest : List ℕ)
+    → mode ≡ M.Dashed start a → GoesOn text bracket mode at b rest → V.element b ≢ Single 93
+behind_dash mode text bracket start at a b rest m g = other g.inner
   where
     other : (mode ≡ M.Fresh) ⊎ (V.element b ≢ Single 93) → V.element b ≢ Single 93
     other (inl f) = cc
     other (inr n) = n
 
-pub behind_range : (mode : Mode) (text : List ℕ) (start at : ℕ) (b : Read) (rest : List ℕ) → mode ≡ M.Barred start
-    → GoesOn text mode at b rest → V.element b ≢ Single 93
-behind_range mode text start at b rest m g = other g.inner
+pub behind_range : (mode : Mode) (text : List ℕ) (bracket start at : ℕ) (b : Read) (rest : List ℕ)
+    → mode ≡ M.Barred start → GoesOn text bracket mode at b rest → V.element b ≢ Single 93
+behind_range mode text bracket start at b rest m g = other g.inner
   where
     other : (mode ≡ M.Fresh) ⊎ (V.element b ≢ Single 93) → V.element b ≢ Single 93
     other (inl f) = cc
@@ -151,25 +153,26 @@ inner first e mode (inr f) (inl t) = absurd (false≢true (sym f ∙ t))
 inner first e mode (inr f) (inr n) = inr n
 
 -- an enclosed element that stands for no bytes
-pub bad_element : (text : List ℕ) (at : ℕ) (a : Read) (rest : List ℕ) (mark : ℕ) (content : List ℕ)
-    → V.element a ≡ Enclosed mark content → Holds text at a rest → member (V.element a) ≡ None
-    → IsBadElement mark text at
-bad_element text at a rest mark content e h n = record {
+pub bad_element : (text : List ℕ) (bracket at : ℕ) (a : Read) (rest : List ℕ) (mark : ℕ) (content : List ℕ)
+    → V.element a ≡ Enclosed mark content → Holds text bracket at a rest → member (V.element a) ≡ None
+    → IsBadElement mark text bracket at
+bad_element text bracket at a rest mark content e h n = record {
   content = content;
   rest = rest;
-  inside = subst (StandsInBracket text at) e h.inside;
+  inside = subst (StandsInBracket text bracket at) e h.inside;
   front = subst (λ x. IsFront x (drop at text) rest) e h.front;
   nothing = sym (ap member e) ∙ n;
 }
 
-pub bad_class : (text : List ℕ) (at mark : ℕ) → mark ≡ 58 → IsBadElement mark text at → IsBadElement 58 text at
-bad_class text at mark e bad = subst (λ m. IsBadElement m text at) e bad
+pub bad_class : (text : List ℕ) (bracket at mark : ℕ) → mark ≡ 58 → IsBadElement mark text bracket at
+    → IsBadElement 58 text bracket at
+bad_class text bracket at mark e bad = subst (λ m. IsBadElement m text bracket at) e bad
 
-pub bad_collating : (text : List ℕ) (at mark : ℕ) → mark ≢ 58 → IsBadElement mark text at
-    → IsBadElement 61 text at ⊎ IsBadElement 46 text at
-bad_collating text at mark n bad = elim (other_mark (eqb mark 58) (eqb mark 61) refl refl bad.front.1) [
-  | inl e ↦ inl (subst (λ m. IsBadElement m text at) e bad)
-  | inr e ↦ inr (subst (λ m. IsBadElement m text at) e bad)
+pub bad_collating : (text : List ℕ) (bracket at mark : ℕ) → mark ≢ 58 → IsBadElement mark text bracket at
+    → IsBadElement 61 text bracket at ⊎ IsBadElement 46 text bracket at
+bad_collating text bracket at mark n bad = elim (other_mark (eqb mark 58) (eqb mark 61) refl refl bad.front.1) [
+  | inl e ↦ inl (subst (λ m. IsBadElement m text bracket at) e bad)
+  | inr e ↦ inr (subst (λ m. IsBadElement m text bracket at) e bad)
 ]
   where
     other_mark : (x y : Bool) → eqb mark 58 ≡ x → eqb mark 61 ≡ y → (x || (y || eqb mark 46)) ≡ true

@@ -188,7 +188,7 @@ module _ (syntax : Syntax) (fold : Bool) (text m : List ℕ) where
 
 module _ (syntax : Syntax) (fold : Bool) where
   -- what is left to read makes the pattern where the whole text does
-  pub whole_made : (text : List ℕ) {s : State} {t : List ℕ} (p : Pattern) → Leads syntax fold text s t
+  whole_made : (text : List ℕ) {s : State} {t : List ℕ} (p : Pattern) → Leads syntax fold text s t
       → Completes syntax fold s t p → Completes syntax fold start text p
   whole_made text p begin c = c
   whole_made text p (onward l e) c = whole_made text p l (step e c)
@@ -199,14 +199,14 @@ module _ (syntax : Syntax) (fold : Bool) where
   left_made text p (onward {s = s} {s' = s'} {t = t} {rest = rest} l e) c =
       stepped syntax fold s s' t rest p e (left_made text p l c)
 
-  pub some_whole : (a c : Option Pattern) (p : Pattern) → (q : Pattern) × (alt a (cat c (Some p)) ≡ Some q)
+  some_whole : (a c : Option Pattern) (p : Pattern) → (q : Pattern) × (alt a (cat c (Some p)) ≡ Some q)
   some_whole None None p = (p, refl)
   some_whole None (Some x) p = (_, refl)
   some_whole (Some y) None p = (_, refl)
   some_whole (Some y) (Some x) p = (_, refl)
 
   -- what closes all open groups makes a pattern
-  pub closes : (outer : List Level) (l : Level) (p : Pattern) → whole l ≡ Some p
+  closes : (outer : List Level) (l : Level) (p : Pattern) → whole l ≡ Some p
       → (q : Pattern) × Completes syntax fold (record { outer = outer; level = l }) (closings syntax (length outer)) q
   closes [] l p w = (p, done w)
   closes (o ∷ outer) l p w =
@@ -223,18 +223,25 @@ module _ (syntax : Syntax) (fold : Bool) where
       by_syntax Basic = refl
       by_syntax Extended = refl
 
-  -- an `a` and what closes the open groups make an expression
-  filled : (text : List ℕ) (s : State) (n : ℕ) → length s.outer ≡ n → Leads syntax fold text s []
+  -- an `a` and what closes the open groups make an expression, behind what was read
+  pub closed_behind : (text : List ℕ) (s : State) (n : ℕ) → length s.outer ≡ n
+      → Leads syntax fold (text ++ 97 ∷ closings syntax n) s (97 ∷ closings syntax n)
+      → (p : Pattern) × Body syntax fold (text ++ 97 ∷ closings syntax n) p 0
+  closed_behind text s n e leads =
+      let m = closings syntax n in
+      let q = Set (folded fold (one 97)) in
+      let f = some_whole s.level.alternatives (last s.level) q in
+      let c = closes s.outer (with_item q s.level) f.0 f.1 in
+      let rest = subst (λ y. Completes syntax fold (add q s) y c.0) (ap (closings syntax) e) c.1 in
+      let all = goes (item_next s m) refl rest in
+      (c.0, expressed syntax fold (text ++ 97 ∷ m) c.0 (whole_made (text ++ 97 ∷ m) c.0 leads all))
+
+  -- and behind a text that is read to its end
+  pub filled : (text : List ℕ) (s : State) (n : ℕ) → length s.outer ≡ n → Leads syntax fold text s []
       → (p : Pattern) × Body syntax fold (text ++ 97 ∷ closings syntax n) p 0
   filled text s n e leads =
-      let m = closings syntax n in
-      let r = (reaches syntax fold text m leads).ended refl in
-      let q = Set (folded fold (one 97)) in
-      let f = some_whole r.0.level.alternatives (last r.0.level) q in
-      let c = closes r.0.outer (with_item q r.0.level) f.0 f.1 in
-      let rest : closings syntax (length r.0.outer) ≡ m = ap (closings syntax) (ap length r.1 ∙ e) in
-      let all = goes (item_next r.0 m) refl (subst (λ y. Completes syntax fold (add q r.0) y c.0) rest c.1) in
-      (c.0, expressed syntax fold (text ++ 97 ∷ m) c.0 (whole_made (text ++ 97 ∷ m) c.0 r.2 all))
+      let r = (reaches syntax fold text (closings syntax n) leads).ended refl in
+      closed_behind text r.0 n (ap length r.1 ∙ e) r.2
 
   pub open_end : (s : State) (p : Pattern) → grouped s.outer ≡ true → Completes syntax fold s [] p → ⊥
   open_end s p g (done w) = false≢true g

@@ -1,23 +1,23 @@
--- What is read of a text is read in the same way with other bytes behind it, which serves the fault of too many groups.
-use Rattle.std.proofs.Common.{ℕ, zero, suc, ◌≡◌, ◌≢◌, ◌<◌, Bool, List, [], ◌∷◌, ◌++◌}
+-- What is read of a text is read in the same way with other bytes behind it, which serves the places of faults.
+use Rattle.std.proofs.Common.{ℕ, zero, suc, ◌≡◌, ◌≢◌, ◌<◌, Bool, true, false, List, [], ◌∷◌, ◌++◌}
 use Rattle.std.proofs.Common.{length, take, drop, Option, Some, None, refl, sym, ap, ◌∙◌, subst}
-use Rattle.std.proofs.Common.{append_assoc, arith}
+use Rattle.std.proofs.Common.{append_assoc, append-nil, arith}
 use Rattle.std.proofs.lemmas.List.{append_cancel_right, take-append-drop}
 use Rattle.pg_bytes.specs.Sets.{one}
 use Rattle.pg_pattern.specs.Patterns.{Pattern, Set, folded}
-use Rattle.pg_grammar.specs.Grammar.{opening, closing}
-use Rattle.pg_grammar.specs.Places.{closings, LeavesOpen}
-use Rattle.pg_syntax.specs.Machine.{Level, last, whole, State, with_item, add, popped, Token, Part, Anchor, Repeat}
+use Rattle.pg_grammar.specs.Grammar.{opening, closing, Body}
+use Rattle.pg_grammar.specs.Places.{closings, LeavesOpen, CanGoOn}
+use Rattle.pg_syntax.specs.Machine.{Level, whole, State, with_item, add, popped, Token, Part, Anchor, Repeat}
 use Rattle.pg_syntax.specs.Machine.{Open, Close, Bar, ends, token}
 use Rattle.pg_syntax.proofs.Reading.{next, Completes, next_some, next_no_state}
 use Rattle.pg_grammar.specs.declared.syntax.Syntax.{Syntax}
 use Rattle.pg_grammar.specs.declared.syntax.Syntax.TheVariants.{Basic, Extended}
 use Rattle.pg_syntax.proofs.TokenBytes.{token_stays}
 use Rattle.pg_syntax.proofs.Sound.{Means, ending, told, next_is}
-use Rattle.pg_syntax.proofs.Onward.{Leads, begin, onward, whole_made, left_made, some_whole, closes, item_next}
-use Rattle.pg_syntax.proofs.Onward.{open_end}
-use Rattle.pg_syntax.proofs.Agreement.{stepped, stuck, expressed}
-use Rattle.pg_syntax.proofs.Complete.{goes, complete, close_token, ends_byte}
+use Rattle.pg_syntax.proofs.Onward.{Leads, begin, onward, left_made, item_next, open_end, closed_behind}
+use Rattle.pg_syntax.proofs.Onward.{filled}
+use Rattle.pg_syntax.proofs.Agreement.{stepped, stuck}
+use Rattle.pg_syntax.proofs.Complete.{complete, close_token, ends_byte}
 
 -- whether a body ends where a token begins doesn't hang on what follows the token
 end_kept : (syntax : Syntax) (fold : Bool) (s : State) (w rest : List ℕ) (k : Token) → Means syntax fold s w rest k
@@ -95,37 +95,65 @@ module _ (syntax : Syntax) (fold : Bool) where
           (ap (popped (o ∷ outer)) e) in
           ih (with_item q o) (stepped syntax fold s (closed q) t rest p goes_on c)
 
-  no_end : (y : Syntax) (x rest : List ℕ) → ending y (97 ∷ x) ≡ ending y (opening y ++ rest)
-  no_end Basic x rest = ends_byte 97 x refl
-  no_end Extended x rest = refl
+  -- what was read in front of an offset leads to the same state with other bytes behind it
+  led : (text : List ℕ) (at : ℕ) (s : State) → Leads syntax fold text s (drop at text) → (x : List ℕ)
+      → ending syntax x ≡ ending syntax (drop at text) → Leads syntax fold (take at text ++ x) s x
+  led text at s leads x h =
+      let f = front leads in
+      let same : f.bytes ≡ take at text = append_cancel_right f.bytes (take at text) (drop at text)
+      (sym f.is ∙ sym (take-append-drop at text)) in
+      subst (λ y. Leads syntax fold (y ++ x) s x) same (f.leads x h)
+
+  no_end : (y : Syntax) (x : List ℕ) → ending y (97 ∷ x) ≡ false
+  no_end Basic x = ends_byte 97 x refl
+  no_end Extended x = refl
+
+  at_end : (y : Syntax) (t : List ℕ) → ending y t ≡ true → ending y [] ≡ true
+  at_end Basic t h = refl
+  at_end Extended t h = h
+
+  -- What was read can go on. Where the rest ends a group, a `$` in front of it may be an anchor, and then is one at the
+  -- front's end too, but not before an `a`.
+  pub can_go_on : (text : List ℕ) (at : ℕ) (s : State) → Leads syntax fold text s (drop at text)
+      → CanGoOn syntax (take at text)
+  can_go_on text at s leads = by_end (ending syntax (drop at text)) refl
+    where
+      made : (p : Pattern) × Body syntax fold (take at text ++ 97 ∷ closings syntax (length s.outer)) p 0
+          → CanGoOn syntax (take at text)
+      made b = record { fold = fold; groups = length s.outer; pattern = b.0; closed = b.1 }
+
+      by_end : (e : Bool) → ending syntax (drop at text) ≡ e → CanGoOn syntax (take at text)
+      by_end true h = made (filled syntax fold (take at text) s (length s.outer) refl
+          (subst (λ y. Leads syntax fold y s []) (append-nil (take at text))
+          (led text at s leads [] (at_end syntax (drop at text) h ∙ sym h))))
+      by_end false h =
+          let m = closings syntax (length s.outer) in
+          made (closed_behind syntax fold (take at text) s (length s.outer) refl
+          (led text at s leads (97 ∷ m) (no_end syntax m ∙ sym h)))
+
+  open_ending : (y : Syntax) (rest : List ℕ) → ending y (opening y ++ rest) ≡ false
+  open_ending Basic rest = refl
+  open_ending Extended rest = refl
 
   -- the groups that are open in front of what opens one more
   pub leaves_more : (n : ℕ) (text : List ℕ) (at : ℕ) (s : State) (rest : List ℕ) → n < length s.outer
       → drop at text ≡ opening syntax ++ rest → Leads syntax fold text s (drop at text)
       → LeavesOpen syntax n (take at text)
   leaves_more n text at s rest h opens leads =
-      let f = front leads in
       let before = take at text in
-      let same : f.bytes ≡ before = append_cancel_right f.bytes before (drop at text)
-      (sym f.is ∙ sym (take-append-drop at text)) in
-      let led = λ (x : List ℕ).
-      subst (λ y. Leads syntax fold (y ++ 97 ∷ x) s (97 ∷ x)) same
-      (f.leads (97 ∷ x) (no_end syntax x rest ∙ ap (ending syntax) (sym opens))) in
+      let inside = ap (ending syntax) opens ∙ open_ending syntax rest in
+      let led_on = λ (x : List ℕ). led text at s leads (97 ∷ x) (no_end syntax x ∙ sym inside) in
       let q = Set (folded fold (one 97)) in
-      let filled = some_whole syntax fold s.level.alternatives (last s.level) q in
-      let c = closes syntax fold s.outer (with_item q s.level) filled.0 filled.1 in
-      let m = closings syntax (length s.outer) in
+      let m = closings syntax n in
+      let body = closed_behind syntax fold before s (length s.outer) refl (led_on (closings syntax (length s.outer))) in
       record {
         fold = fold;
         groups = length s.outer;
         more = h;
-        pattern = c.0;
-        closed = expressed syntax fold (before ++ 97 ∷ m) c.0 (whole_made syntax fold (before ++ 97 ∷ m) c.0 (led m)
-            (goes (item_next syntax fold s m) refl c.1));
+        pattern = body.0;
+        closed = body.1;
         needed = λ p b. still_open n s.outer (with_item q s.level) p h
-            (stepped syntax fold s (add q s) (97 ∷ closings syntax n) (closings syntax n) p
-            (next_some syntax fold s (add q s) (97 ∷ closings syntax n) (closings syntax n) (Part q)
-            (item_next syntax fold s (closings syntax n)) refl)
-            (left_made syntax fold (before ++ 97 ∷ closings syntax n) p (led (closings syntax n))
-            (complete syntax fold (before ++ 97 ∷ closings syntax n) p b)));
+            (stepped syntax fold s (add q s) (97 ∷ m) m p
+            (next_some syntax fold s (add q s) (97 ∷ m) m (Part q) (item_next syntax fold s m) refl)
+            (left_made syntax fold (before ++ 97 ∷ m) p (led_on m) (complete syntax fold (before ++ 97 ∷ m) p b)));
       }

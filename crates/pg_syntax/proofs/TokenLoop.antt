@@ -1,7 +1,8 @@
 -- The loop over the tokens.
 use Rattle.std.proofs.Common.{ℕ, ◌≡◌, ◌≢◌, ◌<◌, ◌≤◌, ◌↔◌, inl, inr, Bool, true, false, List, [], ◌∷◌, ◌++◌, length}
-use Rattle.std.proofs.Common.{drop, Option, Some, None, Err, refl, sym, ap, subst, arith, length-drop, ltb}
+use Rattle.std.proofs.Common.{take, drop, Option, Some, None, Err, refl, sym, ap, subst, arith, length-drop, ltb}
 use Rattle.std.proofs.lemmas.Bool.{false≢true}
+use Rattle.std.proofs.lemmas.List.{drop_all}
 use Rattle.std.proofs.lemmas.Bool.Decides.{nat_tests}
 use Rattle.pg_pattern.specs.Patterns.{Pattern, Empty}
 use Rattle.pg_grammar.specs.Grammar as G
@@ -10,17 +11,17 @@ use Rattle.pg_syntax.specs.Machine as M
 use Rattle.pg_syntax.proofs.Proper.{spelled_proper}
 use Rattle.pg_syntax.specs.Machine.{State, Token, Level, start, whole, grouped, opened, token, after}
 use Rattle.pg_syntax.proofs.Reading.{next, Completes, done, step, next_some, next_no_state}
-use Rattle.pg_syntax.proofs.Onward.{Leads, onward, open_end, leaves_open, leaves_empty}
-use Rattle.pg_syntax.proofs.Prefixes.{leaves_more}
+use Rattle.pg_syntax.proofs.Onward.{Leads, begin, onward, open_end, leaves_open, leaves_empty}
+use Rattle.pg_syntax.proofs.Prefixes.{leaves_more, can_go_on}
 use Rattle.pg_syntax.proofs.IntervalLemmas.{chosen}
-use Rattle.pg_grammar.specs.Places.{Place, PlaceIn}
-use Rattle.pg_grammar.specs.Results.{IsSpelled, IsRefused, IsFault}
+use Rattle.pg_grammar.specs.Places.{Place, PlaceInToken, CanGoOn}
+use Rattle.pg_grammar.specs.Results.{IsSpelled, IsRefused, IsFault, too_long}
 use Rattle.pg_syntax.specs.Expressions.{kind_of}
 use Rattle.pg_syntax.specs.Tokens.{blame, Applies}
 use Rattle.pg_grammar.specs.declared.syntax.Syntax.{Syntax}
 use Rattle.pg_grammar.specs.declared.syntax.Syntax.TheVariants.{Basic, Extended}
 use Rattle.pg_grammar.specs.declared.fault.SyntaxFault.{SyntaxFault}
-use Rattle.pg_grammar.specs.declared.fault.FaultKind.TheVariants.{UnmatchedGroup, EmptyOperand}
+use Rattle.pg_grammar.specs.declared.fault.FaultKind.TheVariants.{UnmatchedGroup, EmptyOperand, TooLong}
 use Rattle.pg_grammar.specs.declared.fault.FaultKind.{FaultKind}
 use Rattle.pg_grammar.specs.declared.syntax.Syntax.TheVariants as S
 use Rattle.pg_syntax.proofs.Complete.{complete}
@@ -32,10 +33,10 @@ abbrev pub Keeps : Syntax → Bool → List ℕ → State → List ℕ → Type 
 Keeps syntax fold text s rest = (p : Pattern) → Completes syntax fold start text p ↔ Completes syntax fold s rest p
 
 -- where a fault stands in an expression of a syntax
-place_of : (syntax : Syntax) (kind : FaultKind) (text : List ℕ) (at : ℕ) → PlaceIn syntax kind text at
-    → Place (kind_of syntax) kind text at
-place_of S.Basic kind text at h = h
-place_of S.Extended kind text at h = h
+place_of : (syntax : Syntax) (kind : FaultKind) (text : List ℕ) (token at : ℕ) → CanGoOn syntax (take token text)
+    → PlaceInToken syntax kind text token at → Place (kind_of syntax) kind text at
+place_of S.Basic kind text token at front h = (token, front, h)
+place_of S.Extended kind text token at front h = (token, front, h)
 
 module _ (syntax : Syntax) (fold : Bool) where
   next_no_token : (s : State) (t : List ℕ) → token syntax fold s t ≡ None → next syntax fold s t ≡ None
@@ -69,13 +70,18 @@ module _ (syntax : Syntax) (fold : Bool) where
   empty_end s p g (done w) = cc
   empty_end s p g (step f c) = cc
 
+  -- a text that is read to its end can go on
+  end_goes_on : (text : List ℕ) (s : State) → Leads syntax fold text s [] → CanGoOn syntax (take (length text) text)
+  end_goes_on text s leads = can_go_on syntax fold text (length text) s
+      (subst (λ y. Leads syntax fold text s y) (sym (drop_all (length text) text (omega arith))) leads)
+
   pub in_group : (text : List ℕ) (s : State) → length text ≤ 4096 → text ≢ [] → grouped s.outer ≡ true
       → Keeps syntax fold text s [] → Leads syntax fold text s []
       → IsRefused (kind_of syntax) fold text (record { kind = UnmatchedGroup; at = length text })
   in_group text s l n g keeps leads = record {
     none = λ p h. open_end syntax fold s p g ((keeps p).0 (spelled syntax fold h n));
-    place = place_of syntax UnmatchedGroup text _
-        (inr (refl, leaves_open syntax fold text s g leads));
+    place = place_of syntax UnmatchedGroup text (length text) _ (end_goes_on text s leads)
+        (refl, inr (refl, leaves_open syntax fold text s g leads));
     long = λ h. absurd (omega arith);
   }
 
@@ -84,8 +90,8 @@ module _ (syntax : Syntax) (fold : Bool) where
       → IsRefused (kind_of syntax) fold text (record { kind = EmptyOperand; at = length text })
   empty_operand text s l n o g keeps leads = record {
     none = λ p h. empty_end s p g ((keeps p).0 (spelled syntax fold h n));
-    place = place_of syntax EmptyOperand text _
-        (inr (inr (refl, leaves_empty syntax fold text s o leads)));
+    place = place_of syntax EmptyOperand text (length text) _ (end_goes_on text s leads)
+        (refl, inr (inr (refl, leaves_empty syntax fold text s o leads)));
     long = λ h. absurd (omega arith);
   }
 
@@ -108,16 +114,16 @@ module _ (syntax : Syntax) (fold : Bool) where
 
   -- the fault of a token stands where it stands
   mark_place : (x : Syntax) (text : List ℕ) (at : ℕ) (w rest : List ℕ) (m : ℕ) (n : Option ℕ) → Mark x w m n
-      → drop at text ≡ w ++ rest → PlaceIn x (blame (M.Repeat m n)) text at
-  mark_place Basic text at w rest m n G.star e = inl (rest, e)
+      → drop at text ≡ w ++ rest → PlaceInToken x (blame (M.Repeat m n)) text at at
+  mark_place Basic text at w rest m n G.star e = (refl, inl (rest, e))
   mark_place Basic text at w rest m n (G.plus x) e = cc
   mark_place Basic text at w rest m n (G.question x) e = cc
-  mark_place Basic text at w rest m n (G.interval {t = t} b) e = inr ((t ++ unbrace Basic) ++ rest, e)
-  mark_place Extended text at w rest m n G.star e = (42, inl refl, (rest, e))
-  mark_place Extended text at w rest m n (G.plus x) e = (43, inr (inl refl), (rest, e))
-  mark_place Extended text at w rest m n (G.question x) e = (63, inr (inr (inl refl)), (rest, e))
+  mark_place Basic text at w rest m n (G.interval {t = t} b) e = (refl, inr ((t ++ unbrace Basic) ++ rest, e))
+  mark_place Extended text at w rest m n G.star e = (refl, 42, inl refl, (rest, e))
+  mark_place Extended text at w rest m n (G.plus x) e = (refl, 43, inr (inl refl), (rest, e))
+  mark_place Extended text at w rest m n (G.question x) e = (refl, 63, inr (inr (inl refl)), (rest, e))
   mark_place Extended text at w rest m n (G.interval {t = t} b) e =
-      (123, inr (inr (inr refl)), ((t ++ unbrace Extended) ++ rest, e))
+      (refl, 123, inr (inr (inr refl)), ((t ++ unbrace Extended) ++ rest, e))
 
   -- a group is refused within 100 others
   below : (n : ℕ) → ltb n 100 ≡ false → 99 < n
@@ -131,7 +137,7 @@ module _ (syntax : Syntax) (fold : Bool) where
 
   pub token_place : (text : List ℕ) (at : ℕ) (s : State) (k : Token) (rest : List ℕ)
       → token syntax fold s (drop at text) ≡ Some (k, rest) → after k s ≡ None
-      → Leads syntax fold text s (drop at text) → PlaceIn syntax (blame k) text at
+      → Leads syntax fold text s (drop at text) → PlaceInToken syntax (blame k) text at at
   token_place text at s (M.Part p) rest e f leads = cc
   token_place text at s (M.Anchor p) rest e f leads = cc
   token_place text at s (M.Repeat m n) rest e f leads =
@@ -140,21 +146,34 @@ module _ (syntax : Syntax) (fold : Bool) where
   token_place text at s M.Open rest e f leads =
       let (w, eq, means) = told syntax fold s (drop at text) M.Open rest e in
       let opens = subst (λ y. drop at text ≡ y ++ rest) means.1 eq in
-      ((rest, opens), leaves_more syntax fold 99 text at s rest (too_many s f) opens leads)
+      (refl, (rest, opens), leaves_more syntax fold 99 text at s rest (too_many s f) opens leads)
   token_place text at s M.Close rest e f leads =
       let (w, eq, means) = told syntax fold s (drop at text) M.Close rest e in
-      inl (rest, subst (λ y. drop at text ≡ y ++ rest) means eq)
+      (refl, inl (rest, subst (λ y. drop at text ≡ y ++ rest) means eq))
   token_place text at s M.Bar rest e f leads =
       let (w, eq, means) = told syntax fold s (drop at text) M.Bar rest e in
-      inr (inl (means.1, (rest, subst (λ y. drop at text ≡ y ++ rest) means.2 eq)))
+      (refl, inr (inl (means.1, (rest, subst (λ y. drop at text ≡ y ++ rest) means.2 eq))))
 
-  pub no_token_fault : (text : List ℕ) (s : State) (t : List ℕ) (f : SyntaxFault) → length text ≤ 4096 → text ≢ []
-      → t ≢ [] → token syntax fold s t ≡ None → PlaceIn syntax f.kind text f.at → Keeps syntax fold text s t
+  pub no_token_fault : (text : List ℕ) (at : ℕ) (s : State) (f : SyntaxFault) → length text ≤ 4096 → text ≢ []
+      → drop at text ≢ [] → token syntax fold s (drop at text) ≡ None → PlaceInToken syntax f.kind text at f.at
+      → Keeps syntax fold text s (drop at text) → Leads syntax fold text s (drop at text)
       → IsFault (kind_of syntax) fold text f
-  no_token_fault text s t f l n m e place keeps = inr (record {
-    none = no_token text s t n m e keeps;
-    place = place_of syntax f.kind text f.at place;
+  no_token_fault text at s f l n m e place keeps leads = inr (record {
+    none = no_token text s (drop at text) n m e keeps;
+    place = place_of syntax f.kind text at f.at (can_go_on syntax fold text at s leads) place;
     long = λ h. absurd (omega arith);
+  })
+
+  short : (text : List ℕ) (p : Pattern) → Spells (kind_of syntax) fold text p → length text ≤ 4096
+  short text p G.nothing = omega arith
+  short text p (G.some l e) = l
+
+  -- a text that is too long has that fault, behind nothing, which can go on
+  pub long_text : (text : List ℕ) → 4096 < length text → IsFault (kind_of syntax) fold text too_long
+  long_text text l = inr (record {
+    none = λ p h. absurd (let k = short text p h in omega arith);
+    place = place_of syntax TooLong text 0 4096 (can_go_on syntax fold text 0 start begin) (refl, l);
+    long = λ h. refl;
   })
 
   pub refused_token : (text : List ℕ) (at : ℕ) (s s' : State) (f : SyntaxFault) (k : Token) (rest : List ℕ)
@@ -165,7 +184,8 @@ module _ (syntax : Syntax) (fold : Bool) where
   refused_token text at s s' f k rest l n m e (inr h) keeps leads =
       inr (subst (λ y. IsRefused (kind_of syntax) fold text y) (sym h.1) (record {
         none = no_state text s (drop at text) rest k n m e h.0 keeps;
-        place = place_of syntax (blame k) text at (token_place text at s k rest e h.0 leads);
+        place = place_of syntax (blame k) text at at (can_go_on syntax fold text at s leads)
+            (token_place text at s k rest e h.0 leads);
         long = λ h. absurd (omega arith);
       }))
 

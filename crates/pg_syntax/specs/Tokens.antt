@@ -5,7 +5,7 @@ use Rattle.pg_bytes.specs.ByteSets.{bytes}
 use Rattle.pg_bytes.specs.declared.byte_set.ByteSet.{ByteSet}
 use Rattle.pg_pattern.specs.Patterns as P
 use Rattle.pg_syntax.specs.Machine as M
-use Rattle.pg_grammar.specs.Places.{PlaceIn}
+use Rattle.pg_grammar.specs.Places.{PlaceInToken}
 use Rattle.pg_syntax.specs.BracketPlaces.{BracketPlace}
 use Rattle.pg_grammar.specs.Results.{out_of_memory}
 use Rattle.pg_grammar.specs.declared.syntax.Syntax.{Syntax}
@@ -26,20 +26,22 @@ token_of Open = M.Open
 token_of Close = M.Close
 token_of Bar = M.Bar
 
--- the token that is found, and the offset after it; or a fault at its place, and nothing is found
+-- the token that is found, and the offset after it; or a fault at its place in the token here, and nothing is found
 abbrev pub Finds : Syntax → List ℕ → ℕ → Result (Token × ℕ) SyntaxFault → M.Found → Type 0
 Finds syntax text at (Ok x) found = (found ≡ Some (token_of x.0, drop x.1 text)) × (at < x.1) × (x.1 ≤ length text)
-Finds syntax text at (Err f) found = (found ≡ None) × PlaceIn syntax f.kind text f.at
+Finds syntax text at (Err f) found = (found ≡ None) × PlaceInToken syntax f.kind text at f.at
 
 -- the set of the bracket that is found, and the offset after it; or a fault at its place in an expression
 abbrev pub FindsBracket : Syntax → List ℕ → ℕ → Result (ByteSet × ℕ) SyntaxFault → Option (Bytes × List ℕ) → Type 0
 FindsBracket syntax text at (Ok x) found = (found ≡ Some (bytes x.0, drop x.1 text)) × (at < x.1) × (x.1 ≤ length text)
-FindsBracket syntax text at (Err f) found = (found ≡ None) × PlaceIn syntax f.kind text f.at
+FindsBracket syntax text at (Err f) found = (found ≡ None) × PlaceInToken syntax f.kind text at f.at
 
--- the same, with the fault at a place that any expression can have
-abbrev pub FindsSet : List ℕ → ℕ → Result (ByteSet × ℕ) SyntaxFault → Option (Bytes × List ℕ) → Type 0
-FindsSet text at (Ok x) found = (found ≡ Some (bytes x.0, drop x.1 text)) × (at < x.1) × (x.1 ≤ length text)
-FindsSet text at (Err f) found = (found ≡ None) × BracketPlace f.kind text f.at
+-- the same of a bracket that begins at the first offset and whose reading goes on at the second one, with the fault at
+-- a place that any expression can have
+abbrev pub FindsSet : List ℕ → (bracket at : ℕ) → Result (ByteSet × ℕ) SyntaxFault → Option (Bytes × List ℕ) → Type 0
+FindsSet text bracket at (Ok x) found =
+    (found ≡ Some (bytes x.0, drop x.1 text)) × (at < x.1) × (x.1 ≤ length text)
+FindsSet text bracket at (Err f) found = (found ≡ None) × BracketPlace f.kind text bracket f.at
 
 -- the fault of a token that can't come where it stands
 abbrev pub blame : M.Token → FaultKind

@@ -43,8 +43,8 @@ impl<'a> Reading<'a> {
         ensures reads { reading self.new ≡
             add (reading self.old) (option_map bytes part) (reading self.old).mode }
         ensures mode { self.new.mode ≡ self.old.mode }
-        ensures placed { (text : List ℕ) → FaultPlaced text self.old.fault →
-            (part ≡ None → FaultPlace text fault) → FaultPlaced text self.new.fault }
+        ensures placed { (text : List ℕ) (bracket : ℕ) → FaultPlaced text bracket self.old.fault →
+            (part ≡ None → FaultPlace text bracket fault) → FaultPlaced text bracket self.new.fault }
     {
         match part {
             Some(set) => self.set = self.set.union(set),
@@ -63,8 +63,8 @@ impl<'a> Reading<'a> {
     /// Reads one more element, which stands at an offset.
     fn put(&mut self, at: usize, next: Element<'a>)
         ensures reads { reading self.new ≡ put (reading self.old) (element next.entry) }
-        ensures placed { (text rest : List ℕ) → Placed text (drop at text) self.old →
-            GoesOn text self.old.mode at next.entry rest → Placed text rest self.new }
+        ensures placed { (text : List ℕ) (bracket : ℕ) (rest : List ℕ) → Placed text bracket (drop at text) self.old →
+            GoesOn text bracket self.old.mode at next.entry rest → Placed text bracket rest self.new }
     {
         match self.mode {
             Mode::Fresh => self.mode = Mode::Held(at, next),
@@ -105,7 +105,8 @@ impl<'a> Reading<'a> {
         ensures reads { MatchResult result
             (λ s. finish (reading self.entry) ≡ Some (bytes s))
             (λ _. finish (reading self.entry) ≡ None) }
-        ensures placed { (text rest : List ℕ) → Placed text rest self.entry → IfErr result (FaultPlace text) }
+        ensures placed { (text : List ℕ) (bracket : ℕ) (rest : List ℕ) → Placed text bracket rest self.entry →
+            IfErr result (FaultPlace text bracket) }
     {
         match self.mode {
             Mode::Fresh => {}
@@ -129,7 +130,7 @@ impl<'a> Reading<'a> {
 fn elements(text: &[u8], bracket: usize, start: usize) -> Result<(ByteSet, usize), SyntaxFault>
     requires opens { OpensBracket (drop bracket text.now) (drop start text.now) }
     requires within { start ≤ length text.now }
-    ensures { FindsSet text.now start result (elements_from text.now start) }
+    ensures { FindsSet text.now bracket start result (elements_from text.now start) }
 {
     let mut reading = Reading {
         mode: Mode::Fresh,
@@ -183,7 +184,7 @@ fn shaped(set: ByteSet, fold: bool, negated: bool) -> ByteSet
 pub(crate) fn bracket(text: &[u8], at: usize, fold: bool) -> Result<(ByteSet, usize), SyntaxFault>
     requires stands { drop at text.now ≡ 91 ∷ drop (at + 1) text.now }
     requires within { at < length text.now }
-    ensures { FindsSet text.now at result (bracket fold (drop at text.now)) }
+    ensures { FindsSet text.now at at result (bracket fold (drop at text.now)) }
 {
     let negated = negates(text, at + 1);
     let start = if negated { at + 2 } else { at + 1 };

@@ -77,8 +77,8 @@ impl<'a> Element<'a> {
 
     /// The fault of an element that stands at this offset, inside a bracket, and stands for no bytes.
     pub(crate) fn fault(self, at: usize) -> SyntaxFault
-        ensures { (text rest : List ℕ) →
-            member (element self.entry) ≡ None → Holds text at self.entry rest → FaultPlace text result }
+        ensures { (text : List ℕ) (bracket : ℕ) (rest : List ℕ) → member (element self.entry) ≡ None →
+            Holds text bracket at self.entry rest → FaultPlace text bracket result }
     {
         let kind = match self {
             Element::Single(_) => FaultKind::BadRange,
@@ -96,8 +96,8 @@ impl<'a> Element<'a> {
     /// The fault of the range from this element, at `start`, to the last one, at `at`, both inside a bracket: no range
     /// joins the two.
     pub(crate) fn range_fault(self, start: usize, last: Element, at: usize) -> SyntaxFault
-        ensures { (text from rest : List ℕ) → Holds text start self.entry from → Holds text at last.entry rest →
-            IsBadRange text start → FaultPlace text result }
+        ensures { (text : List ℕ) (bracket : ℕ) (from rest : List ℕ) → Holds text bracket start self.entry from →
+            Holds text bracket at last.entry rest → IsBadRange text bracket start → FaultPlace text bracket result }
     {
         if self.member().is_none() {
             return self.fault(start);

@@ -5,7 +5,7 @@ ghost use Rattle.std.specs.List.{list_any};
 ghost use Rattle.pg_bytes.specs.Sets.{one};
 ghost use Rattle.pg_pattern.specs.Patterns.{Set, folded};
 ghost use Rattle.pg_grammar.specs.Grammar.{is_escaped, brace, unbrace};
-ghost use Rattle.pg_grammar.specs.Places.{PlaceIn, IsUnescaped};
+ghost use Rattle.pg_grammar.specs.Places.{PlaceInToken, IsUnescaped};
 ghost use Rattle.pg_syntax.specs.IntervalReading.{bounds};
 ghost use Rattle.pg_syntax.specs.BracketReading.{bracket};
 ghost use Rattle.pg_syntax.specs.Machine.{basic_escape, extended_escape, basic_token, extended_other};
@@ -53,7 +53,7 @@ fn is_escaped(syntax: Syntax, byte: u8) -> bool
 /// The fault of the backslash before a byte that it neither makes ordinary nor gives a meaning.
 fn escape_fault(byte: u8, at: usize) -> SyntaxFault
     ensures { (syntax : Syntax) (text rest : List ℕ) → IsUnescaped syntax byte →
-        drop at text ≡ 92 ∷ byte ∷ rest → PlaceIn syntax result.kind text result.at }
+        drop at text ≡ 92 ∷ byte ∷ rest → PlaceInToken syntax result.kind text at result.at }
 {
     match byte {
         b'1'..=b'9' => SyntaxFault {

@@ -30,7 +30,7 @@ returns-then-not-first c =
       | in-Err w ↦ rw w.result-is (
         done ∙ ap
             (option_and_then (λ s. Some (s, drop (at + 1) text))) w.in-Err.ensures.reads,
-        w.in-Err.ensures.placed text (drop at text) c.loop-at.invariant.placed,
+        w.in-Err.ensures.placed text c.args.bracket (drop at text) c.loop-at.invariant.placed,
       )
     ]
 
@@ -45,7 +45,7 @@ returns-in_default c =
     ] in
     let none = left_none _ text _ c.loop-at.first at c.loop-at-test.true differs c.in_default.ensures
     c.loop-at.invariant.left in
-    (ap (rest_of unread) none, unended text c.args.bracket c.args.start c.requires.opens none)
+    (ap (rest_of unread) none, (refl, unended text c.args.bracket c.args.start c.requires.opens none))
 
 pub loop-at-init : goal.loop-at-init
 loop-at-init c =
@@ -87,10 +87,9 @@ loop-at-preserved c =
           c.loop-at-test.true e.1 differs e.0 (reading c.put.new.self) c.put.ensures.reads c.loop-at.invariant.left;
       reached = onward c.loop-at.invariant.reached front kind;
       begun = inr refl;
-      placed = c.put.ensures.placed text rest c.loop-at.invariant.placed (record {
+      placed = c.put.ensures.placed text c.args.bracket rest c.loop-at.invariant.placed (record {
         holds = record {
           inside = (
-            c.args.bracket,
             drop c.args.start text,
             c.loop-at.first,
             c.requires.opens,
@@ -107,4 +106,4 @@ pub returns : goal.returns
 returns c =
     let none = left_end _ c.args.text.now _ c.loop-at.first c.loop-at.at c.loop-at-test.false
     c.loop-at.invariant.left in
-    (ap (rest_of unread) none, unended c.args.text.now c.args.bracket c.args.start c.requires.opens none)
+    (ap (rest_of unread) none, (refl, unended c.args.text.now c.args.bracket c.args.start c.requires.opens none))

@@ -15,7 +15,7 @@ invariant-loop-at l = record {
       l.at;
   reached : ReadsUpTo (drop l.fn.start l.text) l.first (drop l.at l.text);
   begun : (l.reading.mode ≡ Fresh) ⊎ (l.first ≡ false);
-  placed : Placed l.text (drop l.at l.text) l.reading;
+  placed : Placed l.text l.fn.bracket (drop l.at l.text) l.reading;
 }
 
 abbrev pub decreases-loop-at : goal.decreases-loop-at

@@ -13,9 +13,9 @@ pub returns-in_err-token-clause-refused : goal.returns-in_err-token-clause-refus
 returns-in_err-token-clause-refused g c =
     let text = c.args.source.now.text.now in
     let p = err_from_is_err_and c.from_residual.result c.from_residual.ensures.1 in
-    rw (p.1, p.2) (no_token_fault _ _ text (state_of c.loop-at.builder) _ _ c.requires.short c.requires.some
-    (nonempty_drop text c.loop-at.at (omega arith))
-    c.in_err-token.ensures.0 c.in_err-token.ensures.1 c.loop-at.invariant.keeps)
+    rw (p.1, p.2) (no_token_fault _ _ text c.loop-at.at (state_of c.loop-at.builder) _ c.requires.short
+    c.requires.some (nonempty_drop text c.loop-at.at (omega arith))
+    c.in_err-token.ensures.0 c.in_err-token.ensures.1 c.loop-at.invariant.keeps c.loop-at.invariant.leads)
 
 pub returns-in_err-apply-clause-refused : goal.returns-in_err-apply-clause-refused
 returns-in_err-apply-clause-refused g c =
