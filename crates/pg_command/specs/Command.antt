@@ -1,5 +1,5 @@
 -- What the command answers, and what it writes.
-use Rattle.std.specs.Prelude.{◌≡◌, ℕ, ◌<◌, ◌⊎◌, Bool, List, ◌++◌, codes, Result, Ok, Err, MatchResult}
+use Rattle.std.specs.Prelude.{◌≡◌, ℕ, ◌<◌, ◌⊎◌, Bool, List, [], ◌++◌, codes, Result, Ok, Err, MatchResult}
 use Rattle.std.specs.Result.{IsErr}
 use Rattle.std.specs.String.{string_bytes}
 use Rattle.pg_base.specs.Sink.{Stream, WritesAll, WritesPart}
@@ -15,6 +15,10 @@ use Rattle.pg_request.specs.Asked.{asked_on}
 use Rattle.pg_report.specs.Told.{TellsFault, TellsText, line_of}
 use Rattle.pg_request.specs.declared.fault.Fault.TheVariants.{OutOfMemory, Usage, WriteFailed}
 use Rattle.pg_command.specs.declared.search.ToldFault.{ToldFault}
+
+-- a sink that took nothing yet
+abbrev pub unwritten : Stream
+unwritten = record { taken = []; failures = 0 }
 
 -- The words weren't taken: nothing was opened or written, and this was told.
 pub record RefusesWords {T : Type 0} (text : List ℕ) (past past' : List FileOutcome) (out out' err err' : Stream)

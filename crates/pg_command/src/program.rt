@@ -1,7 +1,7 @@
 //! The command, over any files and streams.
 ghost use Rattle.std.specs.Prelude.{◌≡◌, ◌≤◌, [], map, IfOk, IfErr, OnErr, IsErr};
 ghost use Rattle.std.specs.String.{string_bytes};
-ghost use Rattle.pg_command.specs.Command.{Commands, IsShown, RunsCommand, TellsOfWords};
+ghost use Rattle.pg_command.specs.Command.{Commands, IsShown, RunsCommand, TellsOfWords, unwritten};
 ghost use Rattle.pg_report.specs.Told.{TellsFault};
 
 use crate::search::{ToldFault, answer};
@@ -97,8 +97,9 @@ fn show<W: Sink, E: Sink>(
 }
 
 /// Runs the command over the words of a call, or tells why the words couldn't be read. Nothing was asked of `files`
-/// yet. The answer is the exit status of the program: that of the command, or 2 where a fault was told, where there are
-/// no words, or where what standard output held back can't be sent on, which is part of success.
+/// yet, nothing opened, and nothing written: so what the program does is what this call does. The answer is the exit
+/// status of the program: that of the command, or 2 where a fault was told, where there are no words, or where what
+/// standard output held back can't be sent on, which is part of success.
 pub fn run<
     't,
     R: Threads + Wait + Clock + Sync,
@@ -115,7 +116,9 @@ pub fn run<
     out: &mut Out<W>,
     err: &mut E,
 ) -> u8
-    requires { files.old.walk.asked.items ≡ [] }
+    requires fresh { files.old.walk.asked.items ≡ [] }
+    requires unopened { S.past files.old.store ≡ [] }
+    requires unwritten { (out.old.stream ≡ unwritten) × (E.stream err.old ≡ unwritten) }
     ensures runs { IfOk call.entry (λ called. RunsCommand (T.tells tree.now) (T.answers tree.now) called.terminal
         (map string_bytes called.words.items) (S.past files.old.store) (S.past files.new.store)
         out.old.stream out.new.stream (E.stream err.old) (E.stream err.new) result) }

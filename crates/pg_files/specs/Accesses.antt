@@ -19,12 +19,12 @@ abbrev pub newest_of : Option Access → List FileOutcome → List FileOutcome
 newest_of None earlier = []
 newest_of (Some access) earlier = given_of access ∷ earlier
 
--- an end was met, or a failure; where there was no file nothing changes
+-- an end was met, or a failure, which stays; where there was no file nothing changes
 abbrev pub ended : Bool → Reading → Reading
 ended failed (Refused cause) = Refused cause
 ended failed Unfinished = if failed then Broken else Finished
 ended failed Finished = if failed then Broken else Finished
-ended failed Broken = if failed then Broken else Finished
+ended failed Broken = Broken
 
 -- The earlier accesses stand in their order, and then the newest; without a newest there is none.
 abbrev pub past_of : List Access → Option Access → List FileOutcome

@@ -1,6 +1,7 @@
 -- What a store of the system's files shows.
-use Rattle.std.specs.Prelude.{ℕ, nat_eq, List, Option, None, Some, codes, drop, if◌then◌else◌}
+use Rattle.std.specs.Prelude.{◌≡◌, ℕ, nat_eq, List, [], Option, None, Some, codes, drop, if◌then◌else◌}
 use lib.Pointwise.{pointwise}
+use Rattle.pg_walk.specs.declared.tree.Identity.{Identity}
 use Rattle.pg_files.specs.Given.{FileOutcome}
 use Rattle.pg_files.specs.declared.disk_store.Source.{Source}
 use Rattle.pg_files.specs.declared.disk_store.Source.TheVariants.{Closed, Standard, Open, Whole}
@@ -12,11 +13,19 @@ pub data SourceKind : Type 0 where
   AFile : SourceKind
   AWholeFile : SourceKind
 
--- what the files gave, what is open, and the bytes that it is known to have left
+-- what the files gave, what is open, the bytes that it is known to have left, and the regular file that the output goes
+-- to
 pub record DiskData : Type 0 where
   pub past : List FileOutcome
   pub reads : SourceKind
   pub left : Option (List ℕ)
+  pub output : Option Identity
+
+-- nothing was opened yet, and so nothing read
+pub record IsUnopened (store : DiskData) : Type 0 where
+  pub past : store.past ≡ []
+  pub reads : store.reads ≡ Nothing
+  pub left : store.left ≡ None
 
 -- a path opens a file, and `-` standard input
 abbrev pub opened_by : List ℕ → SourceKind

@@ -1,5 +1,6 @@
 //! The system's files.
-ghost use Rattle.std.specs.Prelude.{◌≡◌, ◌≢◌, ◌⊎◌, ◌∷◌, [], length, None, true, OnOk, IfErr, IsErr, IsOk, codes};
+ghost use Rattle.std.specs.Prelude.{◌≡◌, ◌≢◌, ◌⊎◌, ◌∷◌, ◌↔◌, length, true, OnOk, IfErr, IsErr, IsOk, IsSome, IsTrue};
+ghost use Rattle.std.specs.Prelude.{codes};
 ghost use Rattle.std.specs.Io.KnownBytes.{ReadConsumes};
 ghost use Rattle.pg_files.specs.Asking.{ReadGives};
 ghost use Rattle.pg_files.specs.Store.{Opens};
@@ -60,19 +61,20 @@ impl<R: Files + Input + Drop> Model for DiskStore<R> {
       past = s.past;
       reads = opened s.source;
       left = left_of R.Reader.remaining R.File.remaining s.source;
+      output = s.output;
     } };
 }
 
 impl<R: Files + Input + Drop> DiskStore<R> {
     ghost use Rattle.std.specs.Prelude.{Some, OnErr};
-    ghost use Rattle.pg_files.specs.DiskStore.{Nothing, AWholeFile};
+    ghost use Rattle.pg_files.specs.DiskStore.{Nothing, AWholeFile, IsUnopened};
     ghost use Rattle.pg_files.specs.Given.{NoFile};
     ghost use Rattle.pg_base.specs.declared.cause.Cause.TheVariants.{IsOutput};
     ghost use Rattle.pg_files.specs.declared.store.OpenFault.TheVariants.{Refused};
 
     /// No file is open. What standard output goes to is looked at now.
     pub fn new(rt: R) -> DiskStore<R>
-        ensures { result ≡ record { past = []; reads = Nothing; left = None } }
+        ensures { IsUnopened result }
     {
         let output = regular_id(fs::metadata(&rt, "/dev/stdout"));
         DiskStore {
@@ -85,7 +87,9 @@ impl<R: Files + Input + Drop> DiskStore<R> {
     }
 
     /// Whether this is the file that standard output goes to.
-    fn is_output(&self, id: Option<Identity>) -> bool {
+    fn is_output(&self, id: Option<Identity>) -> bool
+        ensures { IsTrue result ↔ (IsSome self.now.output × (self.now.output ≡ id)) }
+    {
         self.output.is_some() && self.output == id
     }
 
@@ -106,7 +110,9 @@ impl<R: Files + Input + Drop> DiskStore<R> {
         ensures reads { OnOk result (self.new.reads ≡ AWholeFile) }
         ensures left { OnOk result (self.new.left ≡ Some file.bytes.items) }
         ensures closed { OnErr result (self.new.reads ≡ Nothing) }
-        ensures cause { IfErr result (λ fault. (fault ≡ Refused IsOutput) × (spares_output ≡ true)) }
+        ensures cause { IfErr result (λ fault. fault ≡ Refused IsOutput) }
+        ensures refused { IsErr result ↔ ((spares_output ≡ true) × (self.old.output ≡ Some file.id)) }
+        ensures output { self.new.output ≡ self.old.output }
     {
         if spares_output && self.is_output(Some(file.id)) {
             return Err(self.refuse(path, Cause::IsOutput));
@@ -121,6 +127,7 @@ impl<R: Files + Input + Drop> DiskStore<R> {
     fn refuse(&mut self, path: &str, cause: Cause) -> OpenFault
         ensures past { self.new.past ≡ NoFile path.now cause ∷ self.old.past }
         ensures closed { self.new.reads ≡ Nothing }
+        ensures output { self.new.output ≡ self.old.output }
         ensures fault { result ≡ Refused cause }
     {
         self.source = Source::Closed;
@@ -146,6 +153,8 @@ impl<R: Files + Input + Drop> Store for DiskStore<R> {
             ⊎ ((fault ≡ Refused IsOutput) × (spares_output ≡ true)))) }
         ensures standard { path.now ≡ codes "-"
             → IfErr result (λ fault. (fault ≡ Refused IsOutput) × (spares_output ≡ true)) }
+        ensures known { IfErr result (λ fault. fault ≡ Refused IsOutput → IsSome self.old.output) }
+        ensures output { self.new.output ≡ self.old.output }
     {
         if path == "-" {
             let standard = regular_id(fs::metadata(&self.rt, "/dev/stdin"));
@@ -181,6 +190,7 @@ impl<R: Files + Input + Drop> Store for DiskStore<R> {
         ensures given { ReadGives into.new self.old.past self.new.past result }
         ensures size { length into.new ≡ length into.old }
         ensures reads { self.new.reads ≡ self.old.reads }
+        ensures output { self.new.output ≡ self.old.output }
         ensures closed { self.old.reads ≡ Nothing → IsErr result }
         // All of such a file was read before.
         ensures whole { self.old.reads ≡ AWholeFile → IsOk result }

@@ -26,6 +26,7 @@ impl Reading {
     {
         match self {
             Reading::Refused(cause) => Reading::Refused(cause),
+            Reading::Broken => Reading::Broken,
             _ if failed => Reading::Broken,
             _ => Reading::Finished,
         }
@@ -116,7 +117,7 @@ impl StorePast {
         }
     }
 
-    /// The newest file's end was met, or a read of it failed.
+    /// The newest file's end was met, or a read of it failed. What failed once stays so.
     pub fn end(&mut self, failed: bool)
         ensures { self.new ≡ gave_end failed self.old }
     {

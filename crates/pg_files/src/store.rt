@@ -1,6 +1,6 @@
 //! Files by their paths.
-ghost use Rattle.std.specs.Prelude.{◌≡◌, ◌<◌, length, List};
-ghost use Rattle.pg_files.specs.Given.{FileOutcome};
+ghost use Rattle.std.specs.Prelude.{◌≡◌, ◌<◌, length, List, true};
+ghost use Rattle.pg_files.specs.Given.{FileOutcome, is_reading};
 ghost use Rattle.pg_files.specs.Asking.{ReadGives};
 ghost use Rattle.pg_files.specs.Store.{Opens};
 
@@ -36,16 +36,17 @@ pub trait Store {
     /// Nothing rests on the answer but when rows are written.
     fn may_wait(&self) -> bool;
 
-    /// Reads the next bytes of the open file into the front of a buffer that isn't empty.
+    /// Reads the next bytes of the open file into the front of a buffer that isn't empty. Neither its end nor a failure
+    /// was met before.
     ///
     /// `Ok(k)` says that these are the buffer's first k bytes. `Ok(0)` is the file's end.
     ///
     /// # Errors
     ///
-    /// `ReadFault` where the read failed, also where it was interrupted. A [`DiskStore`](crate::DiskStore)
-    /// and a [`MemStore`](crate::MemStore) answer so too where no file is open.
+    /// `ReadFault` where the read failed, also where it was interrupted.
     fn read(&mut self, into: &mut [u8]) -> Result<usize, ReadFault>
-        requires { 0 < length into.old }
+        requires some { 0 < length into.old }
+        requires reading { is_reading (past self.old) ≡ true }
         ensures given { ReadGives into.new (past self.old) (past self.new) result }
         ensures size { length into.new ≡ length into.old };
 }

@@ -13,7 +13,7 @@ pub(crate) const WINDOW: usize = 64;
 /// A thread wakes for no fewer entries.
 const WORTH_WAKING: usize = 8;
 
-/// So many bytes, between what different threads write, keep them from sharing a line of the processor's cache.
+/// How many bytes between what different threads write keep them from sharing a line of the processor's cache.
 const LINE: usize = 64;
 
 /// Room for what was found out about an entry.

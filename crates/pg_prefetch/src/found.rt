@@ -25,6 +25,8 @@ pub(crate) fn list<R: Files + Drop>(
 /// What stands at an entry's path, and what was read there.
 pub(crate) struct Found {
     path: String,
+    /// Whether a link was followed.
+    follows: bool,
     kind: FileKind,
     /// The file, where it is to be read and is small.
     file: Option<WholeFile>,
@@ -37,6 +39,7 @@ impl Drop for Found {
     fn drop(self) {
         let Found {
             path: _,
+            follows: _,
             kind: _,
             file: _,
             listing: _,
@@ -51,7 +54,9 @@ impl Found {
         alloc: Global,
         scope: &Scope,
         path: String,
-    ) -> Option<Found> {
+    ) -> Option<Found>
+        ensures { IfSome result (λ found. (found.path ≡ path) × (found.follows ≡ scope.now.follows)) }
+    {
         let tree = DiskTree::new(&rt);
         let kind = tree.kind(path.as_str(), scope.follows).ok()?;
         let is_kept = scope.keeps_entry(path.as_str(), kind);
@@ -67,15 +72,19 @@ impl Found {
         };
         Some(Found {
             path,
+            follows: scope.follows,
             kind,
             file,
             listing,
         })
     }
 
-    /// What stands at a path, if this was found there.
-    pub(crate) fn kind(&self, path: &str) -> Option<FileKind> {
-        if self.path.as_str() == path {
+    /// What stands at a path, where a link is followed or not, if this was found so there.
+    pub(crate) fn kind(&self, path: &str, follow: bool) -> Option<FileKind>
+        ensures { IfSome result
+            (λ _. (string_bytes self.now.path ≡ path.now) × (self.now.follows ≡ follow)) }
+    {
+        if self.path.as_str() == path && self.follows == follow {
             Some(self.kind)
         } else {
             None
@@ -88,6 +97,7 @@ impl Found {
     {
         let Found {
             path: own,
+            follows: _,
             kind: _,
             file,
             listing: _,
@@ -96,9 +106,12 @@ impl Found {
     }
 
     /// What the directory at a path holds, if this was found there and the directory was listed.
-    pub(crate) fn into_listing(self, path: &str) -> Option<Listing> {
+    pub(crate) fn into_listing(self, path: &str) -> Option<Listing>
+        ensures { IfSome result (λ _. string_bytes self.path ≡ path.now) }
+    {
         let Found {
             path: own,
+            follows: _,
             kind: _,
             file: _,
             listing,

@@ -14,7 +14,7 @@ use std::sync::{Arc, Wait};
 /// Entries further down are not looked at ahead, for each level holds up to a window of files.
 const DEEPEST: usize = 16;
 
-/// So often it is asked whether another thread is done with an entry, which takes some 10 microseconds.
+/// How often it is asked whether another thread is done with an entry, which takes some 10 microseconds.
 const PATIENCE: u32 = 10_000;
 
 /// For a directory of no fewer entries all threads wake.
@@ -128,8 +128,9 @@ impl Prefetcher {
         }
     }
 
-    /// What stands at a path, if it is an entry that was looked at ahead. What was read of it is kept.
-    pub(crate) fn find<R: Wait>(&mut self, rt: &R, path: &str) -> Option<FileKind> {
+    /// What stands at a path, where a link is followed or not, if it is an entry that was looked at ahead so. What was
+    /// read of it is kept.
+    pub(crate) fn find<R: Wait>(&mut self, rt: &R, path: &str, follow: bool) -> Option<FileKind> {
         self.leave(rt);
         self.found = None;
         let directory = self.directories.last()?;
@@ -145,7 +146,7 @@ impl Prefetcher {
             }
         }
         let found = found?;
-        let kind = found.kind(path);
+        let kind = found.kind(path, follow);
         self.found = Some(found);
         kind
     }

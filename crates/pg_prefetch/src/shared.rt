@@ -14,7 +14,7 @@ pub(crate) struct Shared {
     directory: Mutex<Option<Arc<Directory>>>,
     /// It changes with the directory, and when a sleeping thread is to look again.
     signal: AtomicU64,
-    /// So many threads sleep, or are about to.
+    /// How many threads sleep, or are about to.
     asleep: AtomicU64,
 }
 

@@ -1,4 +1,6 @@
 //! The system's files, of which some were read ahead.
+ghost use Rattle.pg_files.specs.DiskStore.{IsUnopened};
+
 use crate::tree::PrefetchTree;
 use pg_files::{DiskStore, OpenFault, ReadFault, Store};
 use std::rt::Files;
@@ -19,7 +21,9 @@ impl<R: Files + Input + Drop> Drop for PrefetchStore<'_, R> {
 
 impl<'t, R: Files + Input + Wait + Copy + Drop> PrefetchStore<'t, R> {
     /// No file is open. What standard output goes to is looked at now.
-    pub fn new(rt: R, tree: &'t PrefetchTree<R>) -> PrefetchStore<'t, R> {
+    pub fn new(rt: R, tree: &'t PrefetchTree<R>) -> PrefetchStore<'t, R>
+        ensures { IsUnopened result.disk }
+    {
         PrefetchStore {
             tree,
             disk: DiskStore::new(rt),

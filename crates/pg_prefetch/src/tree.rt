@@ -45,9 +45,9 @@ impl<R: Files + Wait + Copy + Drop> PrefetchTree<R> {
         self.prefetcher.try_lock()?.take_file(path)
     }
 
-    /// What stands at a path, if that was found ahead.
-    fn found(&self, path: &str) -> Option<FileKind> {
-        self.prefetcher.try_lock()?.find(&self.rt, path)
+    /// What stands at a path, where a link is followed or not, if that was found ahead.
+    fn found(&self, path: &str, follow: bool) -> Option<FileKind> {
+        self.prefetcher.try_lock()?.find(&self.rt, path, follow)
     }
 }
 
@@ -61,7 +61,7 @@ impl<R: Files + Wait + Copy + Drop> FileTree for PrefetchTree<R> {
     } };
 
     fn kind(&self, path: &str, follow: bool) -> Result<FileKind, LookFault> {
-        match self.found(path) {
+        match self.found(path, follow) {
             Some(kind) => Ok(kind),
             None => self.disk.kind(path, follow),
         }

@@ -22,7 +22,7 @@ pub enum ReadOutcome {
     Refused(CutFault),
 }
 
-/// So many reads of each file are copied: of a small file the one that gives its bytes and the one that finds its end.
+/// How many reads of each file are copied: of a small file the one that gives its bytes and the one that finds its end.
 const COPIED_READS: u32 = 2;
 
 /// A read asks for a block and so many bytes more.
@@ -40,12 +40,12 @@ pub struct FileReader<A: Allocator + Copy = Global> {
     spare: Option<Vec<u8, A>>,
     /// What the last read came to.
     came: ReadOutcome,
-    /// So many more reads may be made beside a search.
+    /// How many more reads may be made beside a search.
     ahead: u32,
     /// What the first reads of each file are read into: it is cleared once a run, and the cutter's own room, which is
     /// cleared for each file, only where a file is longer. It is empty where memory for it was refused.
     buffer: Vec<u8, A>,
-    /// So many more reads of the open file go through the buffer.
+    /// How many more reads of the open file go through the buffer.
     copied_reads: u32,
 }
 
@@ -86,7 +86,8 @@ impl<A: Allocator + Copy> FileReader<A> {
     /// A reader that has no file yet, for blocks of `block` bytes. The first two reads of each file ask for 4,096 bytes
     /// more, but for no more than 69,632, and are copied. Where memory for that is refused, none are.
     pub fn new(alloc: A, block: u32) -> FileReader<A>
-        ensures { result.came ≡ End }
+        ensures came { result.came ≡ End }
+        ensures none { HasNoFile result }
     {
         FileReader {
             alloc,
@@ -131,7 +132,7 @@ impl<A: Allocator + Copy> FileReader<A> {
         self.came
     }
 
-    /// So many more reads may be made beside a search, each by a step.
+    /// From now on so many more reads may be made beside a search, each by a step.
     pub fn read_ahead(&mut self, reads: u32)
         ensures cutter { self.new.cutter ≡ self.old.cutter }
         ensures came { self.new.came ≡ self.old.came }

@@ -27,7 +27,8 @@ pub fn list_files<'t, T: FileTree, S: Store + Drop>(
     tree: &'t T,
     files: &mut OperandFiles<'t, T, S>,
 ) -> Result<bool, AllocError>
-    ensures fresh { OnOk result ((files.new.walk.asked.items ≡ []) × (files.new.done ≡ false)) }
+    ensures fresh { OnOk result
+        ((files.new.walk.asked.items ≡ []) × (files.new.done ≡ false) × (files.new.broken ≡ false)) }
     ensures store { files.new.store ≡ files.old.store }
     ensures walk { OnOk result ((files.new.walk.walker.tree.now ≡ tree.now)
         × (map string_bytes files.new.walk.operands.items ≡ (asked_of request.now).files)

@@ -1,10 +1,10 @@
 //! The files of patterns and those of globs.
-ghost use Rattle.std.specs.Prelude.{◌≡◌, ◌<◌, ◌∷◌, List, ℕ, map, option_map, IfErr, IfOk, length};
+ghost use Rattle.std.specs.Prelude.{◌≡◌, ◌<◌, ◌∷◌, List, ℕ, map, option_map, IfErr, IfOk, length, true};
 ghost use Rattle.pg_grammar.specs.Memory.{patterns_of};
 ghost use Rattle.pg_grammar.specs.Slices.{bytes_of};
 ghost use Rattle.pg_selection.specs.Search.{ByLine};
 ghost use Rattle.pg_base.specs.Entries.{Ended, Left};
-ghost use Rattle.pg_files.specs.Given.{FileOutcome, File};
+ghost use Rattle.pg_files.specs.Given.{FileOutcome, File, is_reading};
 ghost use Rattle.pg_words.specs.Filters.{filter_said, filters_of};
 ghost use Rattle.pg_request.specs.Asked.{glob_file, glob_files};
 ghost use Rattle.pg_request.specs.Reading.{contents_of, FailsToReadAll, HasRead, IsReadOrGivenUp, StopsAt};
@@ -110,6 +110,7 @@ fn read_to_end<S: Store>(
     bytes: &mut Vec<u8>,
     store: &mut S,
 ) -> Result<Result<(), ReadFault>, AllocError>
+    requires { is_reading (S.past store.old) ≡ true }
     ensures { (path : List ℕ) → (past : List FileOutcome) → S.past store.old ≡ File path bytes.old.items Left ∷ past →
         IsReadOrGivenUp path past result bytes.new.items (S.past store.new) }
 {
@@ -123,7 +124,8 @@ fn read_by<S: Store>(
     bytes: &mut Vec<u8>,
     store: &mut S,
 ) -> Result<Result<(), ReadFault>, AllocError>
-    requires { 0 < length buffer.old }
+    requires some { 0 < length buffer.old }
+    requires reading { is_reading (S.past store.old) ≡ true }
     ensures { (path : List ℕ) → (past : List FileOutcome) → S.past store.old ≡ File path bytes.old.items Left ∷ past →
         IsReadOrGivenUp path past result bytes.new.items (S.past store.new) }
 {

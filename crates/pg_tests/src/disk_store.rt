@@ -1,4 +1,7 @@
 //! The system's files.
+ghost use Rattle.std.specs.Prelude.{◌≡◌, true};
+ghost use Rattle.pg_files.specs.Given.{is_reading};
+
 use crate::formats::cut;
 use pg_files::{DiskStore, Store};
 use std::process::Abort;
@@ -12,7 +15,9 @@ fn wanted_of(rt: &impl Abort, word: &str) -> Option<usize> {
 }
 
 /// Whether a read into 16 bytes gives so many, or fails where none is wanted.
-fn reads<S: Store>(store: &mut S, wanted: Option<usize>) -> bool {
+fn reads<S: Store>(store: &mut S, wanted: Option<usize>) -> bool
+    requires { is_reading (S.past store.old) ≡ true }
+{
     let mut buffer = [0u8; 16];
     store.read(&mut buffer).ok() == wanted
 }
@@ -26,23 +31,24 @@ fn is_to_open(rt: &impl Abort, word: &str) -> bool {
     }
 }
 
-/// Whether a path can be opened or can't, and a read is as a row says.
+/// Whether a path can be opened, and a read is then as a row says, or can't be.
 fn is_right<S: Store>(rt: &impl Abort, store: &mut S, row: &str) -> bool {
     let (path, rest) = cut(rt, row, " ");
     let (opened, wanted) = cut(rt, rest, " ");
-    let wanted = wanted_of(rt, wanted);
-    store.open(path, true).is_ok() == is_to_open(rt, opened) && reads(store, wanted)
+    match store.open(path, true) {
+        Ok(()) => is_to_open(rt, opened) && reads(store, wanted_of(rt, wanted)),
+        Err(_) => !is_to_open(rt, opened),
+    }
 }
 
 /// Paths, whether each can be opened, and what a read gives then.
 const PATHS: &str = "/dev/null opens 0
 / opens fault
 /dev/zero opens 16
-/dev/null/below misses fault";
+/dev/null/below misses -";
 
-/// Paths are as the rows say, and nothing can be read before one is opened.
+/// Paths are as the rows say.
 fn assert_paths<S: Store>(rt: &impl Abort, store: &mut S) {
-    assert!(rt; reads(store, None), "no file");
     for row in PATHS.lines() {
         assert!(rt; is_right(rt, store, row), "{row}");
     }
