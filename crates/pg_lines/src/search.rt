@@ -194,8 +194,8 @@ fn next_by_automaton<A: Allocator>(
 }
 
 /// How many lines held a needle and had no hit, with one more; without it there were fewer than 8. Where these are too
-/// many, the needles are given up, and for what takes their place none has been counted: the literals for a row, and the
-/// query's row for literals.
+/// many, the needles are given up, and for what takes their place none has been counted: the literals for a row, and
+/// the query's row for literals.
 fn with_one_in_vain<'n, A: Allocator>(
     query: &'n Query<A>,
     needles: &mut Needles<'n, A>,
@@ -419,7 +419,7 @@ fn sought_set<'l, A: Allocator>(
     }
 }
 
-/// The same, by the literals, and with the bytes as they are searched for in them: in lower case where case is folded.
+/// The runs of selected lines, found by the literals. `searched` is the block, in lower case where case is folded.
 fn search_by<A: Allocator + Copy>(
     alloc: A,
     query: &Query<A>,

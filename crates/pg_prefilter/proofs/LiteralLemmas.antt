@@ -1,8 +1,7 @@
 -- The literals of a query.
-use Rattle.std.proofs.Common.{◌≡◌, ◌<◌, ◌==◌, ◌||◌, ℕ, zero, suc, Bool, false, IsTrue, List, [], ◌∷◌, length, map}
-use Rattle.std.proofs.Common.{get_or, inl, inr, sym, ap, ◌∙◌, subst, arith}
-use Rattle.std.specs.List.{All, Contains, list_any}
-use Rattle.std.proofs.lemmas.Bool.{eq-eqb, cases_Bool, false≢true}
+use Rattle.std.proofs.Common.{◌<◌, ℕ, IsTrue, List, [], length, map}
+use Rattle.std.proofs.Common.{subst, arith}
+use Rattle.std.specs.List.{All}
 use Rattle.std.proofs.lemmas.List.{length-map}
 use Rattle.std.proofs.lemmas.List.Elements.{All-map, All-weaker}
 use Rattle.pg_literal.specs.Literals as P
@@ -41,18 +40,3 @@ no_literals text = record {
   needed = λ some. absurd (omega arith);
   enough = λ k d low. absurd (omega arith);
 }
-
-elsewhere : (x b : ℕ) (xs : List ℕ) (k : ℕ) → k < length (x ∷ xs) → get_or (x ∷ xs) k b ≡ b → (x == b) ≡ false
-    → Contains xs b
-elsewhere x b xs zero below at other = absurd (false≢true (sym other ∙ eq-eqb x b at))
-elsewhere x b xs (suc k) below at other = (k, omega arith, at)
-
--- a byte that no test found isn't there
-pub not_found : (xs : List ℕ) (b : ℕ) → list_any (λ y. y == b) xs ≡ false → Contains xs b → ⊥
-not_found [] b e c = absurd (omega (arith, c.1))
-not_found (x ∷ xs) b e c =
-    let or : Bool → Bool = λ v. v || list_any (λ y. y == b) xs in
-    elim (cases_Bool (x == b)) [
-      | inl same ↦ false≢true (sym e ∙ ap or same)
-      | inr other ↦ not_found xs b (sym (ap or other) ∙ e) (elsewhere x b xs c.0 c.1 c.2 other)
-    ]

@@ -15,8 +15,10 @@ use Rattle.pg_prefilter.specs.declared.needle.NeedleList.{NeedleList}
 use Rattle.pg_prefilter.specs.declared.needle_set.NeedleSet.{NeedleSet}
 use Rattle.pg_prefilter.specs.declared.candidate.NextLine.{NextLine}
 use Rattle.pg_prefilter.specs.declared.candidate.NextLine.TheVariants.{Found, Nowhere, GaveUp}
+use Rattle.pg_prefilter.specs.declared.literal_needles.LiteralNeedles.{LiteralNeedles}
+use Rattle.pg_prefilter.specs.declared.literal_needles.LiteralNeedles.TheVariants.{Few, Many}
 use Rattle.pg_prefilter.specs.declared.needles.Needles.{Needles}
-use Rattle.pg_prefilter.specs.declared.needles.Needles.TheVariants.{Few, Many, Row, GivenUp, TooSlow}
+use Rattle.pg_prefilter.specs.declared.needles.Needles.TheVariants.{Literals, Row, GivenUp, TooSlow}
 use Rattle.pg_prefilter.specs.declared.needle.Place.{Place}
 use Rattle.pg_prefilter.specs.declared.candidate.Candidate.{Candidate}
 
@@ -116,19 +118,27 @@ pub record IsNeedleSet {A : Type 0} (text : SearchText) (bytes : List ℕ) (set 
   pub literals : AreLiterals text (set_literals set.literals.now)
   pub searched : set.searched.now ≡ as_searched text.fold bytes
 
--- the same of either, or of a row and the literals that may take its place; nothing is said where they were given up
+-- the same of few literals or many
+abbrev pub AreLiteralNeedles : {A : Type 0} → SearchText → List ℕ → ℕ → LiteralNeedles A → Type 0
+AreLiteralNeedles text bytes at (Few list) = IsNeedleList text bytes at list
+AreLiteralNeedles text bytes at (Many set) = IsNeedleSet text bytes set
+
+-- the same of literals, or of a row and the literals that may take its place; nothing is said where they were given up
 abbrev pub AreNeedles : {A : Type 0} → SearchText → List ℕ → ℕ → Needles A → Type 0
-AreNeedles text bytes at (Few list) = IsNeedleList text bytes at list
-AreNeedles text bytes at (Many set) = IsNeedleSet text bytes set
+AreNeedles text bytes at (Literals needles) = AreLiteralNeedles text bytes at needles
 AreNeedles text bytes at (Row row) =
-    IsRowOf text row.finder.now × IfSome row.list (IsNeedleList text bytes 0) × IfSome row.set (IsNeedleSet text bytes)
+    IsRowOf text row.finder.now × IfSome row.literals (AreLiteralNeedles text bytes 0)
 AreNeedles text bytes at GivenUp = Unit {0}
 AreNeedles text bytes at TooSlow = Unit {0}
 
--- something is looked for: they aren't given up, and no list of none
+-- the literals that needles are of
+abbrev pub literals_of : {A : Type 0} → LiteralNeedles A → List LiteralData
+literals_of (Few list) = map literal_of list.needles.items
+literals_of (Many set) = set_literals set.literals.now
+
+-- something is looked for: they aren't given up, and there is a literal
 abbrev pub AreSome : {A : Type 0} → Needles A → Type 0
-AreSome (Few list) = 0 < length list.needles.items
-AreSome (Many set) = 0 < length (set_literals set.literals.now)
+AreSome (Literals needles) = 0 < length (literals_of needles)
 AreSome (Row row) = Unit {0}
 AreSome GivenUp = ⊥
 AreSome TooSlow = ⊥
@@ -149,32 +159,28 @@ IsNextWithRow end finder at bytes (Found found) =
 IsNextWithRow end finder at bytes Nowhere = AreWithoutRow end (finder_row finder) (drop at bytes)
 IsNextWithRow end finder at bytes GaveUp = Unit {0}
 
--- the literals that needles are of
+-- the literals that are looked for
 abbrev pub literals_sought : {A : Type 0} → Needles A → List LiteralData
-literals_sought (Few list) = map literal_of list.needles.items
-literals_sought (Many set) = set_literals set.literals.now
+literals_sought (Literals needles) = literals_of needles
 literals_sought (Row row) = []
 literals_sought GivenUp = []
 literals_sought TooSlow = []
 
--- the literals of many needles, or else of a few
-abbrev pub literals_of_either : {A : Type 0} → Option (NeedleSet A) → Option (NeedleList A) → List LiteralData
-literals_of_either (Some set) list = set_literals set.literals.now
-literals_of_either None (Some list) = map literal_of list.needles.items
-literals_of_either None None = []
+-- those of needles, if there are such
+abbrev pub literals_if_some : {A : Type 0} → Option (LiteralNeedles A) → List LiteralData
+literals_if_some None = []
+literals_if_some (Some needles) = literals_of needles
 
 -- the literals that may take the place of the row that needles are
 abbrev pub literals_behind : {A : Type 0} → Needles A → List LiteralData
-literals_behind (Few list) = []
-literals_behind (Many set) = []
-literals_behind (Row row) = literals_of_either row.set row.list
+literals_behind (Literals needles) = []
+literals_behind (Row row) = literals_if_some row.literals
 literals_behind GivenUp = []
 literals_behind TooSlow = []
 
 -- the finder whose row they are, if they are one
 abbrev pub row_sought : {A : Type 0} → Needles A → Option (RowFinder A)
-row_sought (Few list) = None
-row_sought (Many set) = None
+row_sought (Literals needles) = None
 row_sought (Row row) = Some row.finder.now
 row_sought GivenUp = None
 row_sought TooSlow = None
@@ -182,10 +188,8 @@ row_sought TooSlow = None
 -- the first line that holds one of the literals, or the row, that needles are of; none is looked for where they were
 -- given up
 abbrev pub IsNextSought : {A : Type 0} → SearchText → Needles A → ℕ → List ℕ → NextLine → Type 0
-IsNextSought text (Few list) at bytes next =
-    IsNextWith text.fold (terminator_of text) (map literal_of list.needles.items) at bytes next
-IsNextSought text (Many set) at bytes next =
-    IsNextWith text.fold (terminator_of text) (set_literals set.literals.now) at bytes next
+IsNextSought text (Literals needles) at bytes next =
+    IsNextWith text.fold (terminator_of text) (literals_of needles) at bytes next
 IsNextSought text (Row row) at bytes next = IsNextWithRow (terminator_of text) row.finder.now at bytes next
 IsNextSought text GivenUp at bytes next = next ≡ GaveUp
 IsNextSought text TooSlow at bytes next = next ≡ GaveUp

@@ -1,5 +1,6 @@
 -- What texts tell of the lines in which a search has a hit.
-use Rattle.std.specs.Prelude.{◌≡◌, ◌<◌, List, ℕ, Bool, true, IsTrue, length, map}
+use Rattle.std.specs.Prelude.{◌≡◌, ◌<◌, List, ℕ, Bool, true, IsTrue, length, map, Option, None, Some}
+use Rattle.std.specs.Borrow.{Bor}
 use Rattle.std.specs.List.{All, Any}
 use Rattle.pg_literal.specs.Literals.{Holds}
 use Rattle.pg_literal.specs.Literals as P
@@ -27,6 +28,11 @@ flagged is_enough text = record { text = text; is_enough = is_enough }
 -- the literals of a set, which have one flag
 abbrev pub set_literals : {A : Type 0} → LiteralSet A → List LiteralData
 set_literals set = map (flagged set.is_enough) (strings_of set.strings)
+
+-- the literals of a set, if there is one, or else those of a list
+abbrev pub literals_given : {A : Type 0} → Option (Bor (LiteralSet A)) → List (Literal A) → List LiteralData
+literals_given None literals = map data_of literals
+literals_given (Some set) literals = set_literals set.now
 
 -- the line holds one of the texts; with -i the line in lower case does
 abbrev pub HoldsOne : Bool → List LiteralData → List ℕ → Type 0

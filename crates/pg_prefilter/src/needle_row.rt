@@ -5,8 +5,7 @@ ghost use Rattle.pg_prefilter.specs.Literals.{IsRowOf};
 ghost use Rattle.pg_prefilter.specs.Candidates.{IsNextWithRow};
 
 use crate::candidate::{Candidate, NextLine};
-use crate::needle::NeedleList;
-use crate::needle_set::NeedleSet;
+use crate::literal_needles::LiteralNeedles;
 use crate::needles::FAR;
 use pg_literal::{RowFinder, RowOutcome};
 use pg_selection::QueryText;
@@ -21,9 +20,8 @@ pub struct NeedleRow<'n, A: Allocator> {
     finder: &'n RowFinder<A>,
     /// How many lines were found close to the one before, less one for each `FAR` bytes that were passed.
     close: usize,
-    /// The needles of a few literals, or of many, that may take its place.
-    list: Option<NeedleList<'n, A>>,
-    set: Option<NeedleSet<'n, A>>,
+    /// The needles of literals that may take its place.
+    literals: Option<LiteralNeedles<'n, A>>,
 }
 
 impl<'n, A: Allocator> Drop for NeedleRow<'n, A> {
@@ -31,43 +29,37 @@ impl<'n, A: Allocator> Drop for NeedleRow<'n, A> {
         let NeedleRow {
             finder: _,
             close: _,
-            list: _,
-            set: _,
+            literals: _,
         } = self;
     }
 }
 
 impl<'n, A: Allocator> NeedleRow<'n, A> {
-    /// A row, and the needles of literals that may take its place, few or many, if there are such.
+    /// A row, and the needles of literals that may take its place, if there are such.
     pub fn new(
         finder: &'n RowFinder<A>,
-        list: Option<NeedleList<'n, A>>,
-        set: Option<NeedleSet<'n, A>>,
+        literals: Option<LiteralNeedles<'n, A>>,
     ) -> NeedleRow<'n, A>
         ensures finder { result.finder.now ≡ finder.now }
-        ensures list { result.list ≡ list.entry }
-        ensures set { result.set ≡ set.entry }
+        ensures literals { result.literals ≡ literals.entry }
     {
         NeedleRow {
             finder,
             close: 0,
-            list,
-            set,
+            literals,
         }
     }
 
     /// The needles of literals that may take its place.
-    pub fn into_literals(self) -> (Option<NeedleList<'n, A>>, Option<NeedleSet<'n, A>>)
-        ensures list { result.0 ≡ self.entry.list }
-        ensures set { result.1 ≡ self.entry.set }
+    pub fn into_literals(self) -> Option<LiteralNeedles<'n, A>>
+        ensures { result ≡ self.entry.literals }
     {
         let NeedleRow {
             finder: _,
             close: _,
-            list,
-            set,
+            literals,
         } = self;
-        (list, set)
+        literals
     }
 
     /// The first line at or behind a place of a block, or its end, in which the row stands, which is one of the query.
@@ -75,8 +67,7 @@ impl<'n, A: Allocator> NeedleRow<'n, A> {
         requires at { at ≤ length bytes.now }
         requires row { IsRowOf text.now self.old.finder.now }
         ensures finder { self.new.finder ≡ self.old.finder }
-        ensures list { self.new.list ≡ self.old.list }
-        ensures set { self.new.set ≡ self.old.set }
+        ensures literals { self.new.literals ≡ self.old.literals }
         ensures next { IsNextWithRow (terminator_of text.now) self.old.finder.now at bytes.now result }
     {
         if self.close >= CROWD && !self.finder.is_enough {

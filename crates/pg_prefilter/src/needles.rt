@@ -4,15 +4,14 @@ ghost use Rattle.std.specs.Prelude.{IfNone, IfOk, IfSome, IsSome, IsTrue};
 ghost use Rattle.pg_prefilter.specs.declared.needles.Needles.TheVariants.{GivenUp, Row};
 ghost use Rattle.pg_literal.specs.Literals.{as_searched};
 ghost use Rattle.pg_selection.specs.Search.{SearchText};
-ghost use Rattle.pg_prefilter.specs.Literals.{AreLiterals, IsRowOf, data_of, set_literals};
+ghost use Rattle.pg_prefilter.specs.Literals.{AreLiterals, IsRowOf, data_of, literals_given, set_literals};
 ghost use Rattle.pg_prefilter.specs.Candidates.{AreNeedles, AreSome, IsNextSought, literals_behind, literals_sought};
 ghost use Rattle.pg_prefilter.specs.Candidates.{row_sought};
 
 use crate::candidate::NextLine;
+use crate::literal_needles::LiteralNeedles;
 use crate::literal_set::LiteralSet;
-use crate::needle::NeedleList;
 use crate::needle_row::NeedleRow;
-use crate::needle_set::NeedleSet;
 use pg_literal::{Literal, RowFinder};
 use pg_selection::QueryText;
 use std::alloc::{AllocError, Allocator};
@@ -21,11 +20,9 @@ use std::mem;
 /// It takes as long to look at a line that holds a needle as to search so many bytes line by line.
 pub const FAR: usize = 128;
 
-/// What lines with a hit hold, as it is looked for in a block: a few literals one by one, many together, a row of sets,
-/// or nothing any more.
+/// What lines with a hit hold, as it is looked for in a block: literals, a row of sets, or nothing any more.
 pub enum Needles<'n, A: Allocator> {
-    Few(NeedleList<'n, A>),
-    Many(NeedleSet<'n, A>),
+    Literals(LiteralNeedles<'n, A>),
     Row(NeedleRow<'n, A>),
     /// They stood in too many lines in vain.
     GivenUp,
@@ -37,8 +34,7 @@ pub enum Needles<'n, A: Allocator> {
 impl<'n, A: Allocator> Drop for Needles<'n, A> {
     fn drop(self) {
         match self {
-            Needles::Few(_) => {}
-            Needles::Many(_) => {}
+            Needles::Literals(_) => {}
             Needles::Row(_) => {}
             Needles::GivenUp => {}
             Needles::TooSlow => {}
@@ -57,27 +53,21 @@ impl<'n, A: Allocator> Needles<'n, A> {
         row: Option<&'n RowFinder<A>>,
         searched: &'n [u8],
     ) -> Result<Needles<'n, A>, AllocError>
-        ensures { (text : SearchText) → (bytes : List ℕ) → AreLiterals text (map data_of literals.now)
+        ensures row { IfSome row.entry (λ row. IfOk result (λ needles. (row_sought needles ≡ Some row.now)
+            × (literals_behind needles ≡ literals_given set.entry literals.now))) }
+        ensures literals { IfNone row.entry
+            (IfOk result (λ needles. literals_sought needles ≡ literals_given set.entry literals.now)) }
+        ensures needles { (text : SearchText) → (bytes : List ℕ) → AreLiterals text (map data_of literals.now)
             → IfSome set.entry (λ set. AreLiterals text (set_literals set.now))
             → IfSome row.entry (λ row. IsRowOf text row.now)
             → (0 < length literals.now → searched.now ≡ as_searched text.fold bytes)
             → IfSome set.entry (λ _. searched.now ≡ as_searched text.fold bytes)
             → IfOk result (AreNeedles text bytes 0) }
     {
-        let set = match set {
-            Some(set) => Some(NeedleSet::new(set, searched)),
-            None => None,
-        };
-        match (row, set) {
-            (None, Some(set)) => Ok(Needles::Many(set)),
-            (None, None) => {
-                let list = NeedleList::new(alloc, literals, searched)?;
-                Ok(Needles::Few(list))
-            }
-            (Some(row), set) => {
-                let list = NeedleList::new(alloc, literals, searched)?;
-                Ok(Needles::Row(NeedleRow::new(row, Some(list), set)))
-            }
+        let literals = LiteralNeedles::new(alloc, literals, set, searched)?;
+        match row {
+            Some(row) => Ok(Needles::Row(NeedleRow::new(row, Some(literals)))),
+            None => Ok(Needles::Literals(literals)),
         }
     }
 
@@ -86,8 +76,8 @@ impl<'n, A: Allocator> Needles<'n, A> {
         ensures { result ≡ false → AreSome self.now }
     {
         match self {
-            Needles::Few(list) => list.is_empty(),
-            Needles::Many(_) | Needles::Row(_) => false,
+            Needles::Literals(literals) => literals.is_empty(),
+            Needles::Row(_) => false,
             Needles::GivenUp | Needles::TooSlow => true,
         }
     }
@@ -96,7 +86,7 @@ impl<'n, A: Allocator> Needles<'n, A> {
     pub fn are_too_slow(&self) -> bool {
         match self {
             Needles::TooSlow => true,
-            Needles::Few(_) | Needles::Many(_) | Needles::Row(_) | Needles::GivenUp => false,
+            Needles::Literals(_) | Needles::Row(_) | Needles::GivenUp => false,
         }
     }
 
@@ -107,7 +97,7 @@ impl<'n, A: Allocator> Needles<'n, A> {
     {
         match self {
             Needles::Row(row) => Some(row),
-            Needles::Few(_) | Needles::Many(_) | Needles::GivenUp | Needles::TooSlow => None,
+            Needles::Literals(_) | Needles::GivenUp | Needles::TooSlow => None,
         }
     }
 
@@ -123,18 +113,13 @@ impl<'n, A: Allocator> Needles<'n, A> {
         let Some(row) = mem::replace(self, Needles::GivenUp).into_row() else {
             return false;
         };
-        let (list, set) = row.into_literals();
-        if let Some(set) = set {
-            *self = Needles::Many(set);
-            return true;
-        }
-        let Some(list) = list else {
+        let Some(literals) = row.into_literals() else {
             return false;
         };
-        if list.is_empty() {
+        if literals.is_empty() {
             return false;
         }
-        *self = Needles::Few(list);
+        *self = Needles::Literals(literals);
         true
     }
 
@@ -152,13 +137,9 @@ impl<'n, A: Allocator> Needles<'n, A> {
             (λ row. 0 < length (literals_sought self.old) → row_sought self.new ≡ Some row.now) }
         ensures none { result ≡ false → (self.new ≡ GivenUp) × (literals_behind self.old ≡ []) }
     {
-        let has_literals = match self {
-            Needles::Few(_) | Needles::Many(_) => true,
-            Needles::Row(_) | Needles::GivenUp | Needles::TooSlow => false,
-        };
         match row {
-            Some(row) if has_literals => {
-                *self = Needles::Row(NeedleRow::new(row, None, None));
+            Some(row) if matches!(self, Needles::Literals(_)) => {
+                *self = Needles::Row(NeedleRow::new(row, None));
                 true
             }
             _ => self.fall_back(),
@@ -180,11 +161,7 @@ impl<'n, A: Allocator> Needles<'n, A> {
         ensures next { IsNextSought text.now self.new at bytes.now result }
     {
         match self {
-            Needles::Few(list) => match list.next_line(text, bytes, at) {
-                Some(found) => NextLine::Found(found),
-                None => NextLine::Nowhere,
-            },
-            Needles::Many(set) => set.next_line(text, bytes, at),
+            Needles::Literals(literals) => literals.next_line(text, bytes, at),
             Needles::Row(row) => row.next_line(text, bytes, at),
             Needles::GivenUp | Needles::TooSlow => NextLine::GaveUp,
         }

@@ -222,10 +222,5 @@ fn reach_of<A: Allocator>(text: &QueryText<A>, trees: &[Tree<A>]) -> Option<usiz
 fn are_within_lines<A: Allocator>(end: u8, literals: &[Literal<A>]) -> bool
     ensures { IsTrue result → All (λ literal. IsLine end literal.text.items) literals.now }
 {
-    for literal in literals {
-        if literal.text.contains(&end) {
-            return false;
-        }
-    }
-    true
+    literals.iter().all(|literal| !literal.text.contains(&end))
 }

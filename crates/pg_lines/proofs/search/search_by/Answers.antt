@@ -42,7 +42,7 @@ selected_runs-requires-clause-ready g c =
         suffix = subst (λ o. IfSome o (λ suffix. IsSuffixOf text suffix.now)) (sym new.ensures.suffix)
             (c.suffix.ensures text c.prefilter-found.ensures);
       };
-      needles = c.in_ok-needles.ensures text bytes c.requires.literals (sought_known _ _ _ sought known)
+      needles = c.in_ok-needles.ensures.needles text bytes c.requires.literals (sought_known _ _ _ sought known)
           (c.first_row.ensures text c.prefilter-found.ensures) c.requires.searched
           (sought_known _ _ _ sought c.requires.set_searched);
       fits = c.requires.fits;
