@@ -6,7 +6,7 @@ use Rattle.pg_match.specs.Closures.{Leads}
 use Rattle.pg_pattern.specs.Bounds.{MayBegin, MayEnd}
 use Rattle.pg_match.specs.Memories.{Remembered, In, IsShape, IsUnknown, IsAtRow, fresh_at, ended}
 use Rattle.pg_match.specs.Steps.{Reads, LeadsStill, IsStill, Starts, ReadsNone, AnswersEnd}
-use Rattle.pg_match.specs.Searches.{IsBest, RunsFrom}
+use Rattle.pg_match.specs.Searches.{IsBestFrom, RunsFrom}
 use Rattle.pg_match.specs.declared.dfa_anchored.KnownSpan.{KnownSpan}
 use Rattle.pg_match.specs.declared.dfa_anchored.KnownSpan.TheVariants.{Longest, Nothing, Unknown}
 use Rattle.pg_match.specs.declared.single_start.AnchoredRun.{AnchoredRun}
@@ -50,8 +50,7 @@ NothingBefore m l from place =
 
 -- the longest of the spans with a byte that begin at s ends at e
 abbrev pub IsLongestFrom : Nfa → List ℕ → ℕ → ℕ → Type 0
-IsLongestFrom m l s e =
-    IsBest m.states l m.start (MayBegin m.bounds l) (MayEnd m.bounds l) s (length l + 1) (Some (s, e))
+IsLongestFrom m l s e = IsBestFrom m l s (Some (s, e))
 
 -- what is told of the spans with a byte that begin at a place: where the longest one ends, or that there is none, or
 -- nothing

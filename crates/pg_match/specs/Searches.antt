@@ -1,7 +1,7 @@
 -- What a search has found so far, and what it may still find.
 use Rattle.std.specs.Prelude.{◌≡◌, ℕ, zero, suc, ◌+◌, ◌-◌, ◌^◌, ◌<◌, ◌≤◌, ◌⊎◌, Bool, List, length}
 use Rattle.std.specs.Prelude.{Option, Some, None, nat_lt, nat_le, if◌then◌else◌, IsTrue}
-use Rattle.pg_pattern.specs.Bounds.{may_end}
+use Rattle.pg_pattern.specs.Bounds.{may_end, MayBegin, MayEnd}
 use Rattle.pg_match.specs.Automata.{Nfa, Runs}
 use Rattle.pg_match.specs.StateSets.{Members, mark, IsGood}
 use Rattle.pg_match.specs.Closures.{Leads, IsClosed, IsOrdered, Stepped}
@@ -22,6 +22,11 @@ IsBest t l x B E from p None = (s j : ℕ) → from ≤ s → s < j → j < p �
 IsBest t l x B E from p (Some b) =
     (from ≤ b.0) × (b.0 < b.1) × (b.1 < p) × RunsFrom t l x B E b.0 b.1
     × ((s j : ℕ) → from ≤ s → s < j → j < p → RunsFrom t l x B E s j → (b.0 ≤ s) × (s ≡ b.0 → j ≤ b.1))
+
+-- the best of the spans from a place on that begin and end where they may
+abbrev pub IsBestFrom : Nfa → List ℕ → ℕ → Option (ℕ × ℕ) → Type 0
+IsBestFrom m l from span =
+    IsBest m.states l m.start (MayBegin m.bounds l) (MayEnd m.bounds l) from (length l + 1) span
 
 -- the set of position p holds what the starts from `from` to before `upto` that may still win lead to
 pub record Alive (t : List State) (l : List ℕ) (x : ℕ) (B : ℕ → Type 0) (from upto p : ℕ) (now : Members)

@@ -1,10 +1,9 @@
 //! The longest match from a known start, by the remembered sets of the runs that begin there.
-ghost use Rattle.std.specs.Prelude.{◌≡◌, ◌+◌, ◌*◌, ◌<◌, ◌≤◌, ◌^◌, length, IfSome, IsTrue, Some};
+ghost use Rattle.std.specs.Prelude.{◌≡◌, ◌+◌, ◌*◌, ◌<◌, ◌≤◌, ◌^◌, length, IfSome, IsTrue};
 ghost use Rattle.pg_match.specs.Anchored.{IsAnchoredMemoryOf, start_row, NothingBefore, TellsKnownSpan, known_span_of};
-ghost use Rattle.pg_match.specs.Anchored.{Follows};
-ghost use Rattle.pg_pattern.specs.Bounds.{MayBegin, MayEnd};
+ghost use Rattle.pg_match.specs.Anchored.{Follows, IsLongestFrom};
 ghost use Rattle.pg_match.specs.Memories.{In, IsAtRow, Keeps, Same};
-ghost use Rattle.pg_match.specs.Searches.{IsBest};
+ghost use Rattle.pg_match.specs.Searches.{IsBestFrom};
 ghost use Rattle.pg_match.specs.StateSets.{IsGood, HaveRoom};
 ghost use Rattle.pg_match.specs.Steps.{Has};
 ghost use Rattle.pg_match.specs.Views.{nfa, members, buffers, remembered, added, Tells, IsBuilt};
@@ -132,9 +131,7 @@ impl<A: Allocator> Automaton<A> {
         requires start_in { start ≤ length line.now }
         ensures onward { (start ≤ result.0) × (result.0 ≤ length line.now) }
         ensures nothing { NothingBefore (nfa self.now) line.now start result.0 }
-        ensures best { IfSome result.1 (λ end. IsBest self.now.states.items line.now self.now.start
-            (MayBegin self.now.bounds line.now) (MayEnd self.now.bounds line.now) result.0 (length line.now + 1)
-            (Some (result.0, end))) }
+        ensures best { IfSome result.1 (λ end. IsLongestFrom (nfa self.now) line.now result.0 end) }
     {
         let mut place = start;
         let mut left = TRIES;
@@ -417,9 +414,7 @@ impl<A: Allocator> Automaton<A> {
         ensures memory { IsAnchoredMemoryOf (nfa self.now) (remembered memory.new) }
         ensures onward { (start ≤ result.0) × (result.0 ≤ length line.now) }
         ensures nothing { NothingBefore (nfa self.now) line.now start result.0 }
-        ensures best { IfSome result.1 (λ end. IsBest self.now.states.items line.now self.now.start
-            (MayBegin self.now.bounds line.now) (MayEnd self.now.bounds line.now) result.0 (length line.now + 1)
-            (Some (result.0, end))) }
+        ensures best { IfSome result.1 (λ end. IsLongestFrom (nfa self.now) line.now result.0 end) }
         ensures visits { sets.new.visits ≤ result.0 * length self.now.states.items }
         ensures told { added sets.new ≡ added sets.old + sets.new.visits }
     {
@@ -450,8 +445,7 @@ impl<A: Allocator> Automaton<A> {
         ensures room { HaveRoom (buffers sets.new) (length self.now.states.items) }
         ensures same { remembered memory.new ≡ remembered memory.old }
         ensures anchored { IsAnchoredMemoryOf (nfa self.now) (remembered anchored.new) }
-        ensures best { IsBest self.now.states.items line.now self.now.start (MayBegin self.now.bounds line.now)
-            (MayEnd self.now.bounds line.now) start (length line.now + 1) result }
+        ensures best { IsBestFrom (nfa self.now) line.now start result }
         ensures visits { sets.new.visits ≤ (length line.now + 1) * length self.now.states.items }
         ensures told { added sets.new ≡ added sets.old + sets.new.visits }
     {

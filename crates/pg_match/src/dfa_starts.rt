@@ -1,11 +1,11 @@
 //! What remembered sets tell of the hits of a line from a place on, before any marks are set.
-ghost use Rattle.std.specs.Prelude.{◌≡◌, ◌+◌, ◌*◌, ◌/◌, ◌<◌, ◌≤◌, ◌^◌, length, IsTrue, List, MatchOption, Some};
+ghost use Rattle.std.specs.Prelude.{◌≡◌, ◌+◌, ◌*◌, ◌/◌, ◌<◌, ◌≤◌, ◌^◌, length, IsTrue, List, MatchOption};
 ghost use Rattle.pg_pattern.specs.Patterns.{Pattern};
-ghost use Rattle.pg_pattern.specs.Bounds.{MayBegin, MayEnd};
 ghost use Rattle.pg_pattern.specs.Hits.{HasNoNext, IsNext};
 ghost use Rattle.pg_match.specs.Machines.{Agrees};
 ghost use Rattle.pg_match.specs.StateSets.{HaveRoom};
-ghost use Rattle.pg_match.specs.Searches.{IsBest};
+ghost use Rattle.pg_match.specs.Anchored.{IsLongestFrom};
+ghost use Rattle.pg_match.specs.Searches.{IsBestFrom};
 ghost use Rattle.pg_match.specs.Closures.{AreSeeds};
 ghost use Rattle.pg_match.specs.Steps.{EndsBehind};
 ghost use Rattle.pg_match.specs.Memories.{IsMemoryOf, HasScanned, Scanned};
@@ -200,9 +200,7 @@ impl<A: Allocator> Automaton<A> {
     fn is_one_byte(&self, line: &[u8], place: usize) -> bool
         requires built { IsBuilt self.now }
         requires place { place ≤ length line.now }
-        ensures { IsTrue result → IsBest self.now.states.items line.now self.now.start
-            (MayBegin self.now.bounds line.now) (MayEnd self.now.bounds line.now) place (length line.now + 1)
-            (Some (place, place + 1)) }
+        ensures { IsTrue result → IsLongestFrom (nfa self.now) line.now place (place + 1) }
     {
         if place == 0 || place >= line.len() {
             return false;
@@ -229,8 +227,7 @@ impl<A: Allocator> Automaton<A> {
         ensures room { HaveRoom (buffers sets.new) (length self.now.states.items) }
         ensures same { remembered memory.new ≡ remembered memory.old }
         ensures anchored { RemembersAnchored anchored.new (nfa self.now) }
-        ensures best { IsBest self.now.states.items line.now self.now.start (MayBegin self.now.bounds line.now)
-            (MayEnd self.now.bounds line.now) start (length line.now + 1) result }
+        ensures best { IsBestFrom (nfa self.now) line.now start result }
         ensures visits { sets.new.visits ≤ (length line.now + 1) * length self.now.states.items }
         ensures told { added sets.new ≡ added sets.old + sets.new.visits }
     {
@@ -259,8 +256,7 @@ impl<A: Allocator> Automaton<A> {
         ensures room { HaveRoom (buffers sets.new) (length self.now.states.items) }
         ensures memory { IsMemoryOf (nfa self.now) (remembered memory.new) }
         ensures anchored { RemembersAnchored anchored.new (nfa self.now) }
-        ensures best { IsBest self.now.states.items line.now self.now.start (MayBegin self.now.bounds line.now)
-            (MayEnd self.now.bounds line.now) from (length line.now + 1) result }
+        ensures best { IsBestFrom (nfa self.now) line.now from result }
         ensures visits { sets.new.visits ≤ (length line.now + 1) * length self.now.states.items }
         ensures told { added sets.new ≡ added sets.old + sets.new.visits }
     {

@@ -1,9 +1,9 @@
 //! The best span from a place on, first by the runs that begin there alone.
-ghost use Rattle.std.specs.Prelude.{◌≡◌, ◌+◌, ◌-◌, ◌*◌, ◌^◌, ◌<◌, ◌≤◌, length, IfNone, IfSome, Some, None, ℕ};
+ghost use Rattle.std.specs.Prelude.{◌≡◌, ◌+◌, ◌-◌, ◌*◌, ◌^◌, ◌<◌, ◌≤◌, length, IfNone, IfSome, None};
 ghost use Rattle.pg_match.specs.Anchored.{IsAnchoredMemoryOf, IsLongestFrom, IsAnchoredRun, StandsFrom, IsLastEnd};
 ghost use Rattle.pg_match.specs.Anchored.{IsSecondRow, spared};
-ghost use Rattle.pg_pattern.specs.Bounds.{MayBegin, MayEnd};
-ghost use Rattle.pg_match.specs.Searches.{Alive, IsBest, start_bound};
+ghost use Rattle.pg_pattern.specs.Bounds.{MayBegin};
+ghost use Rattle.pg_match.specs.Searches.{Alive, IsBestFrom, start_bound};
 ghost use Rattle.pg_match.specs.StateSets.{HaveRoom};
 ghost use Rattle.pg_match.specs.Steps.{Has};
 ghost use Rattle.pg_match.specs.Views.{nfa, members, buffers, remembered, Tells, IsBuilt};
@@ -215,8 +215,7 @@ impl<A: Allocator> Automaton<A> {
         requires visits { sets.old.visits ≤ from * length self.now.states.items }
         ensures room { HaveRoom (buffers sets.new) (length self.now.states.items) }
         ensures memory { IsAnchoredMemoryOf (nfa self.now) (remembered memory.new) }
-        ensures best { IsBest self.now.states.items line.now self.now.start (MayBegin self.now.bounds line.now)
-            (MayEnd self.now.bounds line.now) from (length line.now + 1) result }
+        ensures best { IsBestFrom (nfa self.now) line.now from result }
         ensures visits { sets.new.visits ≤ (length line.now + 1) * length self.now.states.items }
         ensures told { Tells sets.old sets.new }
     {

@@ -1,13 +1,13 @@
 //! The search of a line, one place after the other.
 ghost use Rattle.std.specs.Prelude.{◌≡◌, ◌+◌, ◌-◌, ◌*◌, ◌^◌, ◌<◌, ◌≤◌};
 ghost use Rattle.std.specs.Prelude.{ℕ, length, is_none, IfOk, IfNone, IfSome, IsTrue, None, is_some, true};
-ghost use Rattle.pg_pattern.specs.Bounds.{MayBegin, MayEnd};
+ghost use Rattle.pg_pattern.specs.Bounds.{MayBegin};
 ghost use Rattle.pg_match.specs.Anchored.{IsAlone};
 ghost use Rattle.pg_match.specs.StateSets.{IsGood, HaveRoom, mark};
 ghost use Rattle.pg_match.specs.Steps.{Has};
 ghost use Rattle.pg_match.specs.Closures.{IsClosed, IsOrdered, AllBelow};
 ghost use Rattle.pg_match.specs.Starts.{SeedsStepped};
-ghost use Rattle.pg_match.specs.Searches.{Alive, Advanced, IsBest, start_bound, judged, limit_of, ending};
+ghost use Rattle.pg_match.specs.Searches.{Alive, Advanced, IsBestFrom, start_bound, judged, limit_of, ending};
 ghost use Rattle.pg_match.specs.Views.{nfa, members, buffers, added, Tells, IsBuilt};
 
 use crate::automaton::Automaton;
@@ -225,8 +225,7 @@ impl<A: Allocator> Automaton<A> {
             (start_bound at) at (members sets.old.current) None }
         requires visits { sets.old.visits ≤ (at + 1) * length self.now.states.items }
         ensures room { HaveRoom (buffers sets.new) (length self.now.states.items) }
-        ensures best { IfNone result.1 (IsBest self.now.states.items line.now self.now.start
-            (MayBegin self.now.bounds line.now) (MayEnd self.now.bounds line.now) from (length line.now + 1) result.0) }
+        ensures best { IfNone result.1 (IsBestFrom (nfa self.now) line.now from result.0) }
         ensures left { IfSome result.1 (λ place. (place < far)
             × IsAlone (nfa self.now) line.now from place (Has (members sets.new.current)) result.0) }
         ensures visits { sets.new.visits
@@ -266,8 +265,7 @@ impl<A: Allocator> Automaton<A> {
         requires short { length line.now ≤ 2 ^ 30 }
         requires from_in { from ≤ length line.now }
         ensures room { HaveRoom (buffers sets.new) (length self.now.states.items) }
-        ensures best { IsBest self.now.states.items line.now self.now.start (MayBegin self.now.bounds line.now)
-            (MayEnd self.now.bounds line.now) from (length line.now + 1) result }
+        ensures best { IsBestFrom (nfa self.now) line.now from result }
         ensures visits { sets.new.visits ≤ (length line.now - from + 1) * length self.now.states.items }
         ensures told { added sets.new ≡ added sets.old + sets.new.visits }
     {

@@ -1,12 +1,11 @@
 //! Where the longest span from a start ends, once the runs of no other start are left.
-ghost use Rattle.std.specs.Prelude.{◌≡◌, ◌+◌, ◌-◌, ◌*◌, ◌/◌, ◌<◌, ◌≤◌, ◌^◌, length, IfSome, IsTrue, Some};
+ghost use Rattle.std.specs.Prelude.{◌≡◌, ◌+◌, ◌-◌, ◌*◌, ◌/◌, ◌<◌, ◌≤◌, ◌^◌, length, IfSome, IsTrue};
 ghost use Rattle.pg_match.specs.Anchored.{IsAnchoredMemoryOf, IsLongestFrom, FollowsRun, IsAnchoredRun};
-ghost use Rattle.pg_pattern.specs.Bounds.{MayBegin, MayEnd};
+ghost use Rattle.pg_pattern.specs.Bounds.{MayBegin};
 ghost use Rattle.pg_match.specs.Memories.{In, Same};
-ghost use Rattle.pg_match.specs.Searches.{IsBest};
 ghost use Rattle.pg_match.specs.StateSets.{HaveRoom};
 ghost use Rattle.pg_match.specs.Steps.{Has};
-ghost use Rattle.pg_match.specs.Views.{nfa, members, buffers, remembered, added, Tells, IsBuilt};
+ghost use Rattle.pg_match.specs.Views.{nfa, members, buffers, remembered, Tells, IsBuilt};
 
 use crate::automaton::Automaton;
 use crate::dfa_anchored::LONG;

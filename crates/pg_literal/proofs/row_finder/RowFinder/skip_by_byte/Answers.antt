@@ -4,49 +4,31 @@ use Rattle.pg_literal.specs.Rows.{row_along}
 use Rattle.pg_literal.proofs.FinderLemmas.{only_elsewhere}
 use Rattle.pg_literal.proofs.row_finder.RowFinder.skip_by_byte.Goals as goal
 
-pub returns-in-Some-clause-within : goal.returns-in-Some-clause-within
-returns-in-Some-clause-within g c =
+pub returns-in-Some : goal.returns-in-Some
+returns-in-Some g c =
+    let bytes = c.args.bytes.now in
     let start = c.args.at + c.args.only.offset in
-    omega (
-      arith,
-      c.in-Some.ensures.0.high,
-      ap length (take_rest c.args.bytes.now start),
-      length-drop start c.args.bytes.now,
-    )
+    let rest = take_rest bytes start in
+    let high = c.in-Some.ensures.0.high in
+    record {
+      within = omega (arith, high, ap length rest, length-drop start bytes);
+      candidate = λ yes. omega (arith, high, ap length rest, length-drop start bytes);
+      none = λ k less.
+          only_elsewhere bytes (row_along c.args.self.now.sets.items) c.args.only c.args.at k _ c.requires.only rest
+          (c.in-Some.ensures.0.before k (omega arith) less);
+      some = λ no. cc;
+    }
 
-pub returns-in-Some-clause-candidate : goal.returns-in-Some-clause-candidate
-returns-in-Some-clause-candidate g c = λ yes.
+pub returns-in-None : goal.returns-in-None
+returns-in-None g c =
+    let bytes = c.args.bytes.now in
     let start = c.args.at + c.args.only.offset in
-    omega (
-      arith,
-      c.in-Some.ensures.0.high,
-      ap length (take_rest c.args.bytes.now start),
-      length-drop start c.args.bytes.now,
-    )
-
-pub returns-in-Some-clause-none : goal.returns-in-Some-clause-none
-returns-in-Some-clause-none g c = λ k less.
-    only_elsewhere c.args.bytes.now (row_along c.args.self.now.sets.items) c.args.only c.args.at k _
-    c.requires.only (take_rest c.args.bytes.now (c.args.at + c.args.only.offset))
-    (c.in-Some.ensures.0.before k (omega arith) less)
-
-pub returns-in-None-clause-none : goal.returns-in-None-clause-none
-returns-in-None-clause-none g c = λ k less.
-    only_elsewhere c.args.bytes.now (row_along c.args.self.now.sets.items) c.args.only c.args.at k _
-    c.requires.only (take_rest c.args.bytes.now (c.args.at + c.args.only.offset))
-    (c.in-None.ensures k (omega arith) less)
-
-pub returns-in-None-clause-within : goal.returns-in-None-clause-within
-returns-in-None-clause-within g c =
-    let start = c.args.at + c.args.only.offset in
-    omega (arith, ap length (take_rest c.args.bytes.now start), length-drop start c.args.bytes.now)
-
-pub returns-in-None-clause-some : goal.returns-in-None-clause-some
-returns-in-None-clause-some g c = λ no.
-    let start = c.args.at + c.args.only.offset in
-    omega (
-      arith,
-      c.requires.within,
-      ap length (take_rest c.args.bytes.now start),
-      length-drop start c.args.bytes.now,
-    )
+    let rest = take_rest bytes start in
+    record {
+      within = omega (arith, ap length rest, length-drop start bytes);
+      candidate = λ yes. cc;
+      none = λ k less.
+          only_elsewhere bytes (row_along c.args.self.now.sets.items) c.args.only c.args.at k _ c.requires.only rest
+          (c.in-None.ensures k (omega arith) less);
+      some = λ no. omega (arith, c.requires.within, ap length rest, length-drop start bytes);
+    }
