@@ -12,8 +12,8 @@ INSTALL ?= install
 
 program = crates/pargrep/out/pargrep
 
-.PHONY: all help check rows check-grep check-workers check-parallel refuse bench install uninstall dist deb \
-	clean toolchain
+.PHONY: all help check test rows check-grep check-workers check-parallel check-limits refuse bench install uninstall \
+	dist deb clean toolchain built
 
 version := $(shell sed -n 's/^pub const VERSION: .*"pargrep \([0-9.]*\).*/\1/p' crates/pg_words/src/help.rt)
 
@@ -30,6 +30,10 @@ help: ## List the targets.
 check: toolchain ## The gate: prove all from nothing, try the wrong bodies, run all tests and rows.
 	@$(PYTHON) tests/gate.py $(RT)
 
+# `make test program=/usr/bin/pargrep` runs it on another program.
+test: built ## Run all that needs only the built program: the gate without proofs and wrong bodies.
+	@$(PYTHON) tests/gate.py --program "$(program)"
+
 rows: all ## Run the command lines in tests/rows on the program.
 	@$(PYTHON) tests/run_rows.py
 
@@ -42,6 +46,9 @@ check-workers: all ## Compare outputs by 1, 2, 3, 4 and 64 workers, over 20,000 
 check-parallel: all ## Compare one run with shares of its files, joined by GNU parallel; it says what it needs.
 	@$(PYTHON) tests/check_parallel.py
 
+check-limits: all ## Run the program under limits of its address space, from 1 to 64 MB.
+	@$(PYTHON) tests/limits.py
+
 # Run it before a change to a function that one of them turns. `make refuse edits="pg_seq pg_blocks/long-line-taken"`
 # tries some.
 refuse: toolchain ## Try the wrong bodies under crates/*/refused, which the gate only looks up.
@@ -51,8 +58,7 @@ bench: all ## Time the program beside GNU grep, and ripgrep where there is one.
 	$(PYTHON) bench/bench.py $(program)
 	bench/memory.sh $(program)
 
-install: ## Install what `make` has built, with its man page and completions. It proves nothing.
-	@test -x $(program) || { echo "pargrep: there is no $(program) yet: run make first" >&2; exit 1; }
+install: built ## Install what `make` has built, with its man page and completions. It proves nothing.
 	$(INSTALL) -d "$(DESTDIR)$(bindir)" "$(DESTDIR)$(mandir)/man1"
 	$(INSTALL) -d "$(DESTDIR)$(bashdir)" "$(DESTDIR)$(zshdir)" "$(DESTDIR)$(fishdir)"
 	$(INSTALL) -m 755 $(program) "$(DESTDIR)$(bindir)/pargrep"
@@ -80,3 +86,6 @@ clean: ## Remove what was built and kept.
 
 toolchain:
 	@command -v $(RT) >/dev/null 2>&1 || { echo "pargrep: the Rattle toolchain is missing: put its command rt on PATH, or run make RT=/path/to/rt" >&2; exit 1; }
+
+built:
+	@test -x "$(program)" || { echo "pargrep: there is no $(program) yet: run make first" >&2; exit 1; }

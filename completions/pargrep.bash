@@ -12,33 +12,39 @@ _pargrep() {
     --workers=
   )
   COMPREPLY=()
-  # Where bash cuts words at `=`, that is a word of its own.
-  local option= value=
+  # The option whose value is completed, with `=` where the value is joined to it, and what there is of the value. Where
+  # bash cuts words at `=`, as it does unless told otherwise, that is a word of its own; else all stands in one word.
+  local option=$before value=$current head=
   if [[ $current == = ]]; then
-    option=$before
+    option=$before= value=''
   elif [[ $before == = ]]; then
-    option=${COMP_WORDS[COMP_CWORD - 2]} value=$current
+    option=${COMP_WORDS[COMP_CWORD - 2]}=
+  elif [[ $current == --*=* ]]; then
+    option=${current%%=*}= value=${current#*=} head=${current%%=*}=
   fi
+  # Behind `--`, where that is no value itself, each word is an operand.
+  local word last=
+  for word in "${COMP_WORDS[@]:1:COMP_CWORD - 1}"; do
+    [[ $word == -- && $last != = && $last != -[ABCDdefm] ]] && option='' value=$head$value head=''
+    last=$word
+  done
+  local -a asked=(-f)
   case $option in
-    --color | --colour)
-      COMPREPLY=($(compgen -W "always never auto" -- "$value"))
+    '' | -f | --file | --file= | --exclude-from | --exclude-from=) ;;
+    --color= | --colour=) asked=(-W "always never auto") ;;
+    -d | --directories | --directories=) asked=(-W "read skip recurse") ;;
+    -D | --devices | --devices=) asked=(-W "read skip") ;;
+    --binary-files | --binary-files=) asked=(-W text) ;;
+    -[ABCem] | --after-context | --before-context | --context | --regexp | --max-count | --block | --exclude | \
+      --exclude-dir | --group-separator | --include | --label | --round | --workers | --*=)
       return ;;
+    *) [[ $current == -* ]] && asked=(-W "${options[*]}") ;;
   esac
-  case $before in
-    -[ABCDdem] | --after-context | --before-context | --context | --devices | --directories | --regexp | --max-count | \
-      --binary-files | --block | --exclude | --exclude-dir | --group-separator | --include | --label | --round | \
-      --workers)
-      return ;;
-  esac
-  case $current in
-    --color=* | --colour=*)
-      COMPREPLY=($(compgen -P "${current%%=*}=" -W "always never auto" -- "${current#*=}")) ;;
-    --file=*) COMPREPLY=($(compgen -f -- "${current#--file=}")) ;;
-    --exclude-from=*) COMPREPLY=($(compgen -f -- "${current#--exclude-from=}")) ;;
-    -*)
-      COMPREPLY=($(compgen -W "${options[*]}" -- "$current"))
-      [[ ${COMPREPLY[0]} == *= ]] && compopt -o nospace ;;
-    *) COMPREPLY=($(compgen -f -- "$current")) ;;
-  esac
+  mapfile -t COMPREPLY < <(compgen -P "$head" "${asked[@]}" -- "$value")
+  if [[ ${asked[0]} == -f ]]; then
+    compopt -o filenames
+  elif [[ ${COMPREPLY[0]} == *= ]]; then
+    compopt -o nospace
+  fi
 }
-complete -o filenames -F _pargrep pargrep
+complete -F _pargrep pargrep

@@ -1,10 +1,14 @@
 #!/usr/bin/env python3
 """The gate: has the toolchain prove all from nothing and run the tests, and each wrong body tried; then compares the
-options, the wrong bodies and the crates with the documents that list them, looks for lemmas and definitions without
-use, runs the rows, the runs by threads, over trees, without memory and over an input that stays open, and looks up the
-wrong bodies that it doesn't try. It closes with 'N passed, M failed' over all.
+options, the wrong bodies, the files of rows and the crates with the documents that list them, asks bash's completion,
+looks for lemmas and definitions without use, runs the rows, the runs by threads, over trees, without memory and over an
+input that stays open, and looks up the wrong bodies that it doesn't try. It closes with 'N passed, M failed' over all.
 
 Usage: tests/gate.py [RT]
+       tests/gate.py --program PATH
+
+With --program nothing is proved or built, and no wrong body is tried: all else runs, on this program. That needs no
+toolchain.
 
 `rt ci` runs on a copy of the repository without its wrong bodies, since it would prove each crate once more for them
 and try one after another. tests/refuse.py tries them over the libraries that `rt ci` has built, several at once, each
@@ -12,6 +16,7 @@ of which has to be refused by a message of its own. The rows and the runs take t
 now, also where it has failed.
 """
 
+import argparse
 import os
 import re
 import resource
@@ -31,12 +36,15 @@ from jobs import jobs_at_once, keep_memory  # noqa: E402
 
 PROGRAM = "crates/pargrep/out/pargrep"
 FIGURES = re.compile(r"([0-9]+) passed, ([0-9]+) failed")
-# What runs behind the proofs, each a script of this folder.
-SCRIPTS = (
+# What runs behind the proofs, each a script of this folder: over files of the repository, and on the program.
+OVER_FILES = (
     ("the options", "options.py"),
-    ("the list of wrong bodies", "wrong_bodies.py"),
+    ("the completion in bash", "completions.py"),
+    ("the lists of wrong bodies and rows", "wrong_bodies.py"),
     ("the map of crates", "crate_map.py"),
     ("lemmas and definitions without use", "unused.py"),
+)
+ON_PROGRAM = (
     ("the rows", "run_rows.py"),
     ("the runs by threads", "threads.py"),
     ("the runs over trees", "trees.py"),
@@ -122,26 +130,40 @@ def proved(rt, room, jobs):
     return [("rt ci", ci), ("the wrong bodies", figures_of("the wrong bodies", "refuse.py", *words))]
 
 
-def minutes(since):
-    """The minutes that were taken by now: of the processors, in user and system mode, and of the clock."""
-    used = resource.getrusage(resource.RUSAGE_CHILDREN)
-    return f"{(used.ru_utime + used.ru_stime) / 60:.0f} processor minutes, {(time.monotonic() - since) / 60:.0f} of wall"
-
-
-def main():
-    if len(sys.argv) > 2:
-        say("usage: tests/gate.py [RT]")
-        return 2
-    rt = (sys.argv[1:] or ["rt"])[0]
+def proved_anew(rt):
+    """The same from the start: what was built before goes, and so does the room of it all once it is done."""
     os.environ["RT"] = rt
-    signal.signal(signal.SIGTERM, lambda number, _: sys.exit(128 + number))
-    since = time.monotonic()
     (ROOT / PROGRAM).unlink(missing_ok=True)
     keep_memory()
     with tempfile.TemporaryDirectory(prefix="gate-") as room:
         ran = proved(rt, room, jobs_at_once())
         os.environ.pop("TMPDIR", None)
-    ran += [(what, figures_of(what, script)) for what, script in SCRIPTS]
+    return ran
+
+
+def minutes(since):
+    """The minutes that were taken by now: of the processors, in user and system mode, and of the clock."""
+    used = resource.getrusage(resource.RUSAGE_CHILDREN)
+    processors, wall = (used.ru_utime + used.ru_stime) / 60, (time.monotonic() - since) / 60
+    return f"{processors:.0f} processor minutes, {wall:.0f} of wall"
+
+
+def read_arguments():
+    parser = argparse.ArgumentParser(description=__doc__, formatter_class=argparse.RawDescriptionHelpFormatter)
+    either = parser.add_mutually_exclusive_group()
+    either.add_argument("rt", nargs="?", default="rt", metavar="RT", help="the toolchain's command")
+    either.add_argument("--program", metavar="PATH", help="prove nothing, and run all else on this program")
+    return parser.parse_args()
+
+
+def main():
+    given = read_arguments()
+    signal.signal(signal.SIGTERM, lambda number, _: sys.exit(128 + number))
+    since = time.monotonic()
+    ran = proved_anew(given.rt) if given.program is None else []
+    words = [] if given.program is None else ["--program", os.path.abspath(given.program)]
+    ran += [(what, figures_of(what, script)) for what, script in OVER_FILES]
+    ran += [(what, figures_of(what, script, *words)) for what, script in ON_PROGRAM]
     looked_up = figures_of("the further wrong bodies", "refuse.py", "--read")
     for what, (passed, failed) in [*ran, ("the further wrong bodies, looked up", looked_up)]:
         say(f"gate: {what}: {passed} passed, {failed} failed")
