@@ -54,8 +54,9 @@ Priority: optional
 Description: grep whose output is proved, by several threads
  Prints the lines of files that match a POSIX basic or extended expression or
  a fixed string, with the options of GNU grep that scripts use. Its output, its
- messages and its status are proved to be those that the definitions of grep
- give, for any number of threads, and selecting lines takes linear time.
+ status and its messages about files and patterns are proved to be those that
+ the definitions of grep give, for any number of threads, and selecting lines
+ takes linear time.
 TEXT
 (cd "$root" && find usr -type f | LC_ALL=C sort | xargs md5sum) >"$root/DEBIAN/md5sums"
 find "$root" -depth -exec touch -h -d "@$changed" {} +

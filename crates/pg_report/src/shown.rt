@@ -76,7 +76,7 @@ fn is_printable(byte: u8) -> bool
     byte >= b' ' && byte <= b'~'
 }
 
-/// So many blanks, at most 200.
+/// A text of `count` blanks, which are at most 200.
 pub(crate) fn blanks(count: usize) -> &'static [u8]
     requires { count ≤ 200 }
     ensures { result.now ≡ replicate count 32 }

@@ -18,7 +18,7 @@ use std::sync::atomic::Ordering;
 use std::time::{Clock, Duration};
 use std::{hint, thread};
 
-/// So many looks at an empty tray follow one another at once.
+/// How many looks at an empty tray follow one another at once.
 const SPINS: u32 = 500;
 
 /// How long, in microseconds, the calling thread sleeps between two later looks.

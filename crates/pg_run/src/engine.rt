@@ -26,10 +26,10 @@ use std::time::Clock;
 /// A round of fewer bytes isn't worth the starting of threads.
 const LEAST_SPREAD: usize = 1_048_576;
 
-/// So many bytes are held in reserve while blocks wait for their round.
+/// How many bytes are held in reserve while blocks wait for their round.
 const RESERVE: usize = 524_288;
 
-/// So many files more than blocks may wait for their rows to be written.
+/// How many files more than blocks may wait for their rows to be written.
 const MOST_EMPTY: usize = 1_024;
 
 /// Searches the blocks of files, and has a sequencer put their rows in order.
@@ -41,7 +41,7 @@ pub(crate) struct Engine<'q, A: Allocator + Copy, Q: BlockSearch<Alloc = A>> {
     pub(crate) setup: Setup,
     /// How many files were opened.
     pub(crate) files: u32,
-    /// So many of them were opened when all that could be was written last.
+    /// How many of them were opened when all that could be was written last.
     written: u32,
     /// Searches the blocks.
     query: &'q Q,

@@ -2,13 +2,13 @@
 
 use std::time::{Clock, Duration};
 
-/// So many bytes are measured before a verdict.
+/// How many bytes are measured before a verdict.
 const MEASURED: u64 = 1_048_576;
 
 /// Where so many bytes took long, the verdict comes at once. That fewer did says nothing: a thread may be held up.
 const SOONER: u64 = 65_536;
 
-/// So many nanoseconds are long.
+/// How many nanoseconds count as long.
 const LONG: u64 = 1_000_000;
 
 /// A search that takes more than a nanosecond a byte is slow: a faster one was seen to gain nothing by several threads.
@@ -39,13 +39,13 @@ fn nanos_since<R: Clock>(rt: &R, begun: Duration) -> Option<u64> {
 /// How fast the last blocks were searched. It decides which threads search, and nothing else.
 #[derive(Clone, Copy)]
 pub(crate) struct Pace {
-    /// So many bytes were searched since the last verdict.
+    /// How many bytes were searched since the last verdict.
     bytes: u64,
     /// It took so many nanoseconds, of all threads together, as if one had searched alone.
     nanos: u64,
     /// The last verdict: whether the search was slow. Until there is one it isn't.
     pub(crate) is_slow: bool,
-    /// So many verdicts in a row were that it was.
+    /// How many verdicts in a row were that it was.
     slow_verdicts: u32,
 }
 

@@ -30,7 +30,7 @@ use std::sync::{Arc, Wait};
 use std::thread::Threads;
 use std::time::Clock;
 
-/// So many files get a number.
+/// How many files get a number.
 const MOST_FILES: u32 = u32::MAX;
 
 /// Tells why a name gives no file, or that its reading failed, unless the run is silent.

@@ -260,7 +260,7 @@ pub(crate) fn name_begun(start: &str) -> Option<&'static str>
     row_begun(&OPTIONS, start)
 }
 
-/// The same of these rows.
+/// Whether the option of this letter takes a value, among these rows.
 fn row_of_letter_has_value(rows: &[OptionRow], letter: u8) -> bool
     ensures { result ≡ takes_value (by_letter (opts_of rows.now) letter) }
 {
@@ -335,12 +335,7 @@ fn begins(name: &str, start: &str) -> bool
 fn some_begins(names: &[&str], start: &str) -> bool
     ensures { result ≡ list_any (λ name. begins name.now start.now) names.now }
 {
-    for name in names {
-        if begins(name, start) {
-            return true;
-        }
-    }
-    false
+    names.iter().any(|name| begins(name, start))
 }
 
 impl OptionRow {

@@ -1,7 +1,7 @@
 //! What --help and --version tell.
 
 /// What --version tells.
-pub const VERSION: &str = "pargrep 1.0.0\n";
+pub const VERSION: &str = "pargrep 1.1.0\n";
 
 /// What --help tells.
 pub const HELP: &str = "\

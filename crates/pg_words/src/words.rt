@@ -88,7 +88,8 @@ impl<T: Drop> From<AllocFailed<T>> for WordsFault {
 ///
 /// `pargrep [options] [PATTERN] [FILE ...]`: PATTERN is the first operand where neither -e nor -f is
 /// given. Options may stand behind operands, until `--`. Of an option that is given twice the last
-/// one counts, and of -i and --no-ignore-case, of --group-separator and --no-group-separator, and of -d, -r and -R too;
+/// one counts, and of -i and --no-ignore-case, of --group-separator and --no-group-separator, and of -d, -r and -R too,
+/// but a later -r or -d doesn't take back that -R follows links;
 /// -e, -f and --exclude-dir collect, and --include, --exclude and --exclude-from together, in one order. -C gives the
 /// lines before and after where -B or -A doesn't. -y is -i, and digits among letters are -C with that number. The value
 /// of --color stands behind `=` in its word alone, and is `auto` where it is left out. -G has no effect beside -E or
