@@ -26,15 +26,16 @@ use pg_blocks::{Block, Span, count_lines, line_end, text_of};
 use pg_literal::Literal;
 use pg_match::Scratch;
 use pg_prefilter::{
-    BlockStrings, FAR, LiteralSet, Needles, NextLine, NextString, fixed_strings, near_text,
+    BYTES_PER_CANDIDATE, BlockStrings, LiteralSet, Needles, NextLine, NextString, fixed_strings,
+    near_text,
 };
 use pg_selection::{BlockResult, Found, Run};
 use std::alloc::{AllocError, Allocator};
 use std::sync::Arc;
 
-/// How many lines may hold a needle and have no hit, beyond one for each `FAR` bytes, until the rest of the block is
+/// How many lines may hold a needle and have no hit, beyond one for each `BYTES_PER_CANDIDATE` bytes, until the rest of the block is
 /// searched line by line.
-const PATIENCE: usize = 8;
+const MAX_FALSE_CANDIDATES: usize = 8;
 
 /// Lines of fewer bytes are read by the automaton as fast as a text is looked for in them.
 const SHORT: usize = 32;
@@ -208,7 +209,7 @@ fn with_one_in_vain<'n, A: Allocator>(
     ensures some { result < 8 → AreSome needles.old → AreSome needles.new }
 {
     let more = in_vain + 1;
-    if more < PATIENCE {
+    if more < MAX_FALSE_CANDIDATES {
         return more;
     }
     if needles.give_up(query.prefilter().later_row()) {
@@ -259,7 +260,7 @@ fn next_confirmed<'n, A: Allocator>(
     let end = query.terminator();
     let mut from = at;
     let mut in_vain = 0;
-    while in_vain < PATIENCE {
+    while in_vain < MAX_FALSE_CANDIDATES {
         let found = match next_candidate(query, needles, bytes, from) {
             NextLine::Found(found) => found,
             NextLine::Nowhere => return None,
@@ -277,7 +278,7 @@ fn next_confirmed<'n, A: Allocator>(
         if found.is_enough || has_hit(query, strings, scratch, text, line.start) {
             return Some(line);
         }
-        let passed = (line.start - from) / FAR;
+        let passed = (line.start - from) / BYTES_PER_CANDIDATE;
         in_vain = with_one_in_vain(query, needles, in_vain.saturating_sub(passed));
         from = line.end;
     }

@@ -9,8 +9,8 @@ use crate::ranges::Cover;
 use pg_bytes::ByteSet;
 use std::alloc::Allocator;
 
-/// Up to so many texts are looked for one by one.
-pub(crate) const FEW: usize = 8;
+/// Up to so many texts are looked for one by one, and more of them together.
+pub const FEW_TEXTS: usize = 8;
 
 /// What it costs to pass a byte in the search for one of a few texts, in picoseconds.
 const ONE: usize = 60;
@@ -53,7 +53,7 @@ pub(crate) fn rarity_of(byte: u8) -> usize
 pub(crate) fn passing_cost(count: usize) -> usize {
     match count {
         0 => NO_TEXT,
-        1..=FEW => count * ONE,
+        1..=FEW_TEXTS => count * ONE,
         _ => MANY,
     }
 }

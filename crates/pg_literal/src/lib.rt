@@ -20,6 +20,7 @@ mod row_outcome;
 mod sets;
 mod suffix;
 
+pub use cost::FEW_TEXTS;
 pub use front::looks_behind;
 pub use literal::Literal;
 pub use reaches::reach;

@@ -10,7 +10,7 @@ ghost use Rattle.pg_literal.specs.Literals.{as_searched, AreNeeded, AreHeads, Ar
 ghost use Rattle.pg_literal.specs.Rows.{row_of, Multiplies};
 ghost use Rattle.pg_literal.specs.Added.{Adds, AddsOnly};
 
-use crate::cost::{FEW, finding_cost, passing_cost};
+use crate::cost::{FEW_TEXTS, finding_cost, passing_cost};
 use crate::inner::inner_of;
 use crate::known::{MatchFacts, with_tree};
 use crate::row::{Expansion, WIDE, texts_of};
@@ -102,7 +102,7 @@ pub(crate) fn single(fold: bool) -> Expansion
 pub(crate) fn wider(fold: bool, count: usize) -> Expansion
     ensures { result.fold ≡ fold }
 {
-    if count <= FEW {
+    if count <= FEW_TEXTS {
         Expansion {
             fold,
             most: MOST_OF_FEW / count.max(1),
@@ -123,13 +123,13 @@ pub(crate) fn wider(fold: bool, count: usize) -> Expansion
 fn are_good<A: Allocator>(literals: &[Literal<A>]) -> bool {
     let are_enough = literals.iter().all(|literal| literal.is_enough);
     let are_long = literals.iter().all(|literal| literal.text.len() >= PLENTY);
-    !literals.is_empty() && (are_enough || are_long && literals.len() <= FEW)
+    !literals.is_empty() && (are_enough || are_long && literals.len() <= FEW_TEXTS)
 }
 
 /// Whether others are better than some literals: they cost less to look for, or there are more than 8, and longer ones
 /// are wanted in any case.
 fn are_better<A: Allocator>(others: &[Literal<A>], literals: &[Literal<A>]) -> bool {
-    if literals.len() > FEW {
+    if literals.len() > FEW_TEXTS {
         !others.is_empty()
     } else {
         cost_of(others) < cost_of(literals)

@@ -8,7 +8,7 @@ ghost use Rattle.pg_literal.specs.Literals.{as_searched};
 ghost use Rattle.pg_literal.specs.Rows.{items_of, byte_as_searched, row_of, IsAlone, AreChoices, AreProduct};
 ghost use Rattle.pg_literal.specs.Known.{sets_of};
 
-use crate::cost::{FEW, RAREST, rarity_of};
+use crate::cost::{FEW_TEXTS, RAREST, rarity_of};
 use pg_bytes::ByteSet;
 use pg_pattern::folded;
 use std::alloc::{AllocError, Allocator};
@@ -272,7 +272,7 @@ pub(crate) fn widest_or_whole(row: &[ByteSet], expansion: Expansion, is_wanted: 
     let part = widest(row, expansion);
     let texts = texts_in(row, expansion.fold);
     let is_small = texts == 1 || texts <= expansion.most && row.len() <= WIDE;
-    if is_wanted && is_small && (texts <= FEW || part.worth.texts > FEW) {
+    if is_wanted && is_small && (texts <= FEW_TEXTS || part.worth.texts > FEW_TEXTS) {
         Window {
             start: 0,
             stop: row.len(),

@@ -54,12 +54,12 @@ struct Skip {
     is_candidate: bool,
 }
 
-/// A row may be compared so often where it doesn't stand, and once more for each `FAR` bytes that are passed, until the
+/// A row may be compared so often where it doesn't stand, and once more for each `BYTES_PER_TRY` bytes that are passed, until the
 /// search is given up.
 const TRIES: usize = 32;
 
 /// To compare a row takes as long as the automaton takes for a few bytes.
-const FAR: usize = 32;
+const BYTES_PER_TRY: usize = 32;
 
 /// A set without the byte that ends lines.
 fn within_line(set: &ByteSet, end: u8) -> ByteSet
@@ -296,7 +296,7 @@ impl<A: Allocator> RowFinder<A> {
                 }
                 at += 1;
                 tries += 1;
-                if tries > TRIES + at / FAR {
+                if tries > TRIES + at / BYTES_PER_TRY {
                     return RowOutcome::GaveUp;
                 }
             }

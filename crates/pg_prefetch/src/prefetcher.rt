@@ -15,7 +15,7 @@ use std::sync::{Arc, Wait};
 const DEEPEST: usize = 16;
 
 /// How often it is asked whether another thread is done with an entry, which takes some 10 microseconds.
-const PATIENCE: u32 = 10_000;
+const MAX_POLLS: u32 = 10_000;
 
 /// For a directory of no fewer entries all threads wake.
 const WORTH_WAKING_ALL: usize = 32;
@@ -170,7 +170,7 @@ fn wait_for<R: Wait>(rt: &R, directory: &Directory, entry: usize) -> Option<Foun
     if directory.claim(entry) {
         return None;
     }
-    for _ in 0..PATIENCE {
+    for _ in 0..MAX_POLLS {
         if let Some(found) = directory.take(rt, entry) {
             return found;
         }

@@ -19,6 +19,6 @@ mod strings;
 
 pub use candidate::{Candidate, NextLine};
 pub use literal_set::{LiteralSet, fixed_strings};
-pub use needles::{FAR, Needles};
+pub use needles::{BYTES_PER_CANDIDATE, Needles};
 pub use prefilter::Prefilter;
 pub use strings::{BlockStrings, NearText, NextString, near_text};

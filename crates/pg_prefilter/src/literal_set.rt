@@ -4,13 +4,10 @@ ghost use Rattle.std.specs.List.{All};
 ghost use Rattle.pg_strings.specs.Keys.{items_of};
 ghost use Rattle.pg_strings.specs.Outcomes.{strings_of};
 
-use pg_literal::Literal;
+use pg_literal::{FEW_TEXTS, Literal};
 use pg_pattern::Bounds;
 use pg_strings::StringSet;
 use std::alloc::{AllocError, Allocator, Global};
-
-/// Up to so many literals are looked for one by one.
-const FEW: usize = 8;
 
 /// Many literals, none of them empty, prepared to be looked for together.
 #[derive(Drop)]
@@ -73,7 +70,7 @@ impl<A: Allocator + Copy> LiteralSet<A> {
         ensures fixed { IfOk result (λ found. IfSome found (λ set. set.is_fixed ≡ is_fixed)) }
     {
         let are_dense = bounds == Bounds::Word && are_all_short(literals);
-        if literals.len() <= FEW || has_empty(literals) || are_dense {
+        if literals.len() <= FEW_TEXTS || has_empty(literals) || are_dense {
             return Ok(None);
         }
         let strings = StringSet::new(alloc, copies_of(alloc, literals)?)?;
@@ -107,7 +104,7 @@ pub fn fixed_strings<'l, A: Allocator>(set: Option<&'l LiteralSet<A>>) -> Option
 pub(crate) fn few_of<A: Allocator>(alloc: A, literals: Vec<Literal<A>, A>) -> Vec<Literal<A>, A>
     ensures { (result ≡ literals) ⊎ (result.items ≡ []) }
 {
-    if literals.len() <= FEW {
+    if literals.len() <= FEW_TEXTS {
         literals
     } else {
         Vec::new(alloc)

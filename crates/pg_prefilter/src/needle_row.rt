@@ -6,19 +6,19 @@ ghost use Rattle.pg_prefilter.specs.Candidates.{IsNextWithRow};
 
 use crate::candidate::{Candidate, NextLine};
 use crate::literal_needles::LiteralNeedles;
-use crate::needles::FAR;
+use crate::needles::BYTES_PER_CANDIDATE;
 use pg_literal::{RowFinder, RowOutcome};
 use pg_selection::QueryText;
 use std::alloc::Allocator;
 
-/// How many lines may have the row, beyond one for each `FAR` bytes, until the rest of the block is searched line by
+/// How many lines may have the row, beyond one for each `BYTES_PER_CANDIDATE` bytes, until the rest of the block is searched line by
 /// line.
 const CROWD: usize = 8;
 
 /// A row of sets, by which lines are looked for.
 pub struct NeedleRow<'n, A: Allocator> {
     finder: &'n RowFinder<A>,
-    /// How many lines were found close to the one before, less one for each `FAR` bytes that were passed.
+    /// How many lines were found close to the one before, less one for each `BYTES_PER_CANDIDATE` bytes that were passed.
     close: usize,
     /// The needles of literals that may take its place.
     literals: Option<LiteralNeedles<'n, A>>,
@@ -79,7 +79,7 @@ impl<'n, A: Allocator> NeedleRow<'n, A> {
             RowOutcome::GaveUp => return NextLine::GaveUp,
         };
         let found = Candidate::around(text.terminator(), bytes, at, place, self.finder.is_enough);
-        let passed = (found.line.start - at) / FAR;
+        let passed = (found.line.start - at) / BYTES_PER_CANDIDATE;
         self.close = self.close.saturating_sub(passed).saturating_add(1);
         NextLine::Found(found)
     }

@@ -10,8 +10,9 @@ use pg_selection::QueryText;
 use pg_strings::{Budget, Outcome};
 use std::alloc::Allocator;
 
-/// What the search of one block may spend on comparing literals, beyond what the bytes that are passed add.
-const ALLOWANCE: usize = 65_536;
+/// What a search of a block for one of many literals may spend on comparing them, beyond what the bytes that are passed
+/// add.
+pub(crate) const BLOCK_BUDGET: usize = 65_536;
 
 /// Many literals, and the bytes of a block in which they are looked for.
 pub struct NeedleSet<'n, A: Allocator> {
@@ -39,7 +40,7 @@ impl<'n, A: Allocator> NeedleSet<'n, A> {
         NeedleSet {
             literals,
             searched,
-            budget: Budget { left: ALLOWANCE },
+            budget: Budget { left: BLOCK_BUDGET },
         }
     }
 

@@ -18,7 +18,7 @@ use std::alloc::{AllocError, Allocator};
 use std::mem;
 
 /// It takes as long to look at a line that holds a needle as to search so many bytes line by line.
-pub const FAR: usize = 128;
+pub const BYTES_PER_CANDIDATE: usize = 128;
 
 /// What lines with a hit hold, as it is looked for in a block: literals, a row of sets, or nothing any more.
 pub enum Needles<'n, A: Allocator> {

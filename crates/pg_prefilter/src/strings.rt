@@ -17,7 +17,7 @@ use std::alloc::Allocator;
 
 /// What the search of one line may spend on comparing strings, beyond what the bytes that are passed add. It is little,
 /// since a line in which comparing takes long spends it in vain before the automaton judges it.
-const ALLOWANCE: usize = 128;
+const LINE_BUDGET: usize = 128;
 
 /// What the search for the next string of a line came to.
 #[derive(Clone, Copy)]
@@ -97,7 +97,7 @@ fn next_standing<A: Allocator>(
     requires { from ≤ length line.now }
     ensures { FindsString (strings_of set.now) bounds line.now from result }
 {
-    let mut budget = Budget { left: ALLOWANCE };
+    let mut budget = Budget { left: LINE_BUDGET };
     let mut at = from;
     while at <= line.len() {
         let place = match set.find(line, at, &mut budget) {

@@ -3,13 +3,13 @@
 use std::time::{Clock, Duration};
 
 /// How many bytes are measured before a verdict.
-const MEASURED: u64 = 1_048_576;
+const SAMPLE_BYTES: u64 = 1_048_576;
 
 /// Where so many bytes took long, the verdict comes at once. That fewer did says nothing: a thread may be held up.
-const SOONER: u64 = 65_536;
+const MIN_SAMPLE_BYTES: u64 = 65_536;
 
 /// How many nanoseconds count as long.
-const LONG: u64 = 1_000_000;
+const MIN_SAMPLE_NANOS: u64 = 1_000_000;
 
 /// A search that takes more than a nanosecond a byte is slow: a faster one was seen to gain nothing by several threads.
 const BYTES_A_NANO: u64 = 1;
@@ -87,7 +87,7 @@ impl Pace {
     fn with(self, bytes: u64, nanos: u64) -> Pace {
         let bytes = self.bytes.saturating_add(bytes);
         let nanos = self.nanos.saturating_add(nanos);
-        if bytes < MEASURED && (bytes < SOONER || nanos < LONG) {
+        if bytes < SAMPLE_BYTES && (bytes < MIN_SAMPLE_BYTES || nanos < MIN_SAMPLE_NANOS) {
             return Pace {
                 bytes,
                 nanos,
