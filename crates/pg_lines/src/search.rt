@@ -33,8 +33,8 @@ use pg_selection::{BlockResult, Found, Run};
 use std::alloc::{AllocError, Allocator};
 use std::sync::Arc;
 
-/// How many lines may hold a needle and have no hit, beyond one for each `BYTES_PER_CANDIDATE` bytes, until the rest of the block is
-/// searched line by line.
+/// How many lines may hold a needle and have no hit, beyond one for each `BYTES_PER_CANDIDATE` bytes, until the rest of
+/// the block is searched for what takes the needles' place, or line by line.
 const MAX_FALSE_CANDIDATES: usize = 8;
 
 /// Lines of fewer bytes are read by the automaton as fast as a text is looked for in them.

@@ -13,7 +13,7 @@ use Rattle.pg_pattern.specs.Patterns.{Pattern, Set, Cat, Alt}
 use Rattle.pg_pattern.specs.Matches.{Match}
 use Rattle.pg_literal.specs.Rows.{StandsAt, row_of, row_along}
 use Rattle.pg_literal.specs.Known.{head_of, Extends}
-use Rattle.pg_literal.specs.Fronts.{IsFronted, IsRow, IsWider, Leads}
+use Rattle.pg_literal.specs.Fronts.{IsFronted, IsFrontRow, IsWider, Leads}
 use Rattle.pg_literal.specs.declared.known.MatchFacts.{MatchFacts}
 use Rattle.pg_literal.proofs.FinderLemmas.{map_reverse}
 use Rattle.pg_literal.proofs.KnownLemmas.{alt_unspelled}
@@ -84,7 +84,7 @@ stands_join line (set ∷ xs) ys i front behind =
     (front.0, stands_join line xs ys (i + 1) front.1 (subst (StandsAt line ys) at behind))
 
 -- a wider row of a pattern
-pub row_wider : (p : Pattern) (row wide : List Bytes) → IsWider row wide → IsRow p row → IsRow p wide
+pub row_wider : (p : Pattern) (row wide : List Bytes) → IsWider row wide → IsFrontRow p row → IsFrontRow p wide
 row_wider p row wide wider is rest = record {
   stands = λ line i j m o.
       let parts = stands_append line row rest i ((is rest).stands line i j m o) in
@@ -95,7 +95,7 @@ row_wider p row wide wider is rest = record {
 }
 
 -- one of two patterns
-pub row_alt : (p q : Pattern) (row : List Bytes) → IsRow p row → IsRow q row → IsRow (Alt p q) row
+pub row_alt : (p q : Pattern) (row : List Bytes) → IsFrontRow p row → IsFrontRow q row → IsFrontRow (Alt p q) row
 row_alt p q row first second rest = leads_alt p q rest (row ++ rest) (first rest) (second rest)
 
 -- one more set on both sides, the second with all bytes of the first
@@ -188,7 +188,7 @@ put_front sets front whole is =
 
 -- an alternation of which each match has bytes of a row
 pub extends_front : {A : Type 0} (fold : Bool) (p q : Pattern) (rest whole : MatchFacts A) (row : List Bytes)
-    → IsRow (Alt p q) row → IsFronted row rest whole → Extends fold (Alt p q) rest whole
+    → IsFrontRow (Alt p q) row → IsFronted row rest whole → Extends fold (Alt p q) rest whole
 extends_front fold p q rest whole row is fronted =
     let leads = is (head_of rest) in
     let size : length whole.head.items ≡ length (row ++ head_of rest) =

@@ -12,7 +12,7 @@ use Rattle.pg_pattern.specs.Matches.{Match}
 use Rattle.pg_pattern.specs.declared.bounds.Bounds.{Bounds}
 use Rattle.pg_pattern.specs.declared.bounds.Bounds.TheVariants.{Any}
 use Rattle.pg_literal.specs.Rows.{StandsAt, row_of}
-use Rattle.pg_literal.specs.Suffixes.{EndsWith, IsRow, IsSuffix, suffix_row}
+use Rattle.pg_literal.specs.Suffixes.{EndsWith, IsExactRow, IsSuffix, suffix_row}
 use Rattle.pg_literal.specs.declared.suffix.LineSuffix.{LineSuffix}
 use Rattle.pg_literal.proofs.LiteralLemmas.{alone_matched, in_one}
 use Rattle.pg_literal.proofs.RowLemmas.{stands_append}
@@ -62,7 +62,7 @@ leads_more whole front sets set leads line i j within =
     )
 
 pub leads_last : (whole : Pattern) (sets : List ByteSet) (set : ByteSet) → Leads whole (Set (bytes set)) sets
-    → IsRow whole (row_of (sets ++ set ∷ []))
+    → IsExactRow whole (row_of (sets ++ set ∷ []))
 leads_last whole sets set leads =
     let row = row_more sets set in
     let size = row_size (sets ++ set ∷ []) ∙ length-append sets (set ∷ []) in
@@ -83,7 +83,7 @@ leads_last whole sets set leads =
     }
 
 -- the end of a line behind a row
-pub suffix_of_row : (p front : Pattern) (row : List Bytes) → p ≡ Cat front End → IsRow front row
+pub suffix_of_row : (p front : Pattern) (row : List Bytes) → p ≡ Cat front End → IsExactRow front row
     → IsSuffix (p ∷ []) Any row
 suffix_of_row p front row is r = record {
   some = r.some;
@@ -154,7 +154,7 @@ list_of_one (y ∷ z ∷ xs) x one is = absurd (omega (arith, one))
 -- the suffix of the only tree
 pub only_suffix : {A E : Type 0} (found : Result (Option (LineSuffix A)) E) (trees : List Pattern) (p : Pattern)
     (bounds : Bounds) → trees ≡ p ∷ [] → bounds ≡ Any
-    → IfOk found (λ o. IfSome o (λ s. (front : Pattern) × (p ≡ Cat front End) × IsRow front (suffix_row s)))
+    → IfOk found (λ o. IfSome o (λ s. (front : Pattern) × (p ≡ Cat front End) × IsExactRow front (suffix_row s)))
     → IfOk found (λ o. IfSome o (λ s. IsSuffix trees bounds (suffix_row s)))
 only_suffix (Err e) trees p bounds one any h = tt
 only_suffix (Ok None) trees p bounds one any h = tt

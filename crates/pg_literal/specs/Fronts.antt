@@ -13,8 +13,8 @@ pub record Leads (p : Pattern) (rest whole : List Bytes) : Type 0 where
   pub long : (line : List ℕ) (i j : ℕ) → Match p line i j → i + length whole ≤ j + length rest
 
 -- each match of the pattern has a byte of each set of the row, and what follows it stands behind these
-abbrev pub IsRow : Pattern → List Bytes → Type 0
-IsRow p row = (rest : List Bytes) → Leads p rest (row ++ rest)
+abbrev pub IsFrontRow : Pattern → List Bytes → Type 0
+IsFrontRow p row = (rest : List Bytes) → Leads p rest (row ++ rest)
 
 -- the other row has as many sets, and stands wherever the first one does
 abbrev pub IsWider : List Bytes → List Bytes → Type 0

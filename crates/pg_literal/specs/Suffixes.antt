@@ -9,7 +9,7 @@ use Rattle.pg_literal.specs.Rows.{StandsAt, row_of}
 use Rattle.pg_literal.specs.declared.suffix.LineSuffix.{LineSuffix}
 
 -- within a line, the pattern matches one byte of each set, one behind the other
-pub record IsRow (p : Pattern) (row : List Bytes) : Type 0 where
+pub record IsExactRow (p : Pattern) (row : List Bytes) : Type 0 where
   pub some : 0 < length row
   pub spans : (line : List ℕ) (i j : ℕ) → j ≤ length line
       → Match p line i j ↔ (StandsAt line row i × (i + length row ≡ j))

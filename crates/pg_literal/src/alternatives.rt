@@ -1,7 +1,7 @@
 //! The row of sets that each match of an alternation consists of, where its alternatives have as many bytes each.
 ghost use Rattle.std.specs.Prelude.{IfOk, IfSome};
 ghost use Rattle.pg_pattern.specs.Trees.{pattern};
-ghost use Rattle.pg_literal.specs.Fronts.{IsRow, IsWider};
+ghost use Rattle.pg_literal.specs.Fronts.{IsFrontRow, IsWider};
 ghost use Rattle.pg_literal.specs.Rows.{row_along};
 
 use crate::row::Expansion;
@@ -18,7 +18,7 @@ fn sets_along<A: Allocator + Copy>(
     alloc: A,
     tree: &Tree<A>,
 ) -> Result<Option<Vec<ByteSet, A>>, AllocError>
-    ensures { IfOk result (λ found. IfSome found (λ row. IsRow (pattern tree.now) (row_along row.items))) }
+    ensures { IfOk result (λ found. IfSome found (λ row. IsFrontRow (pattern tree.now) (row_along row.items))) }
 {
     let mut tree = tree;
     let mut row = Vec::new(alloc);
@@ -82,7 +82,7 @@ fn common_row<A: Allocator + Copy>(
     alloc: A,
     tree: &Tree<A>,
 ) -> Result<Option<Vec<ByteSet, A>>, AllocError>
-    ensures { IfOk result (λ found. IfSome found (λ row. IsRow (pattern tree.now) (row_along row.items))) }
+    ensures { IfOk result (λ found. IfSome found (λ row. IsFrontRow (pattern tree.now) (row_along row.items))) }
 {
     let mut tree = tree;
     let mut row = None;
@@ -109,7 +109,7 @@ pub(crate) fn row_of_alternatives<A: Allocator + Copy>(
     tree: &Tree<A>,
     expansion: Expansion,
 ) -> Result<Option<Vec<ByteSet, A>>, AllocError>
-    ensures { IfOk result (λ found. IfSome found (λ row. IsRow (pattern tree.now) (row_along row.items))) }
+    ensures { IfOk result (λ found. IfSome found (λ row. IsFrontRow (pattern tree.now) (row_along row.items))) }
 {
     if expansion.unites {
         common_row(alloc, tree)

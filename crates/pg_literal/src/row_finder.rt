@@ -54,8 +54,8 @@ struct Skip {
     is_candidate: bool,
 }
 
-/// A row may be compared so often where it doesn't stand, and once more for each `BYTES_PER_TRY` bytes that are passed, until the
-/// search is given up.
+/// A row may be compared so often where it doesn't stand, and once more for each `BYTES_PER_TRY` bytes that are passed,
+/// until the search is given up.
 const TRIES: usize = 32;
 
 /// To compare a row takes as long as the automaton takes for a few bytes.

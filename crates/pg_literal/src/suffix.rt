@@ -3,7 +3,7 @@ ghost use Rattle.std.specs.Prelude.{◌≡◌, ℕ, IsTrue, IfOk, IfSome, MatchO
 ghost use Rattle.pg_pattern.specs.Patterns.{Pattern, Cat, End};
 ghost use Rattle.pg_pattern.specs.Trees.{pattern};
 ghost use Rattle.pg_literal.specs.Rows.{row_of};
-ghost use Rattle.pg_literal.specs.Suffixes.{EndsWith, IsRow, IsSuffix, suffix_row};
+ghost use Rattle.pg_literal.specs.Suffixes.{EndsWith, IsExactRow, IsSuffix, suffix_row};
 
 use crate::sets::only_set;
 use pg_bytes::ByteSet;
@@ -34,7 +34,7 @@ fn row_sets<A: Allocator + Copy>(
     alloc: A,
     tree: &Tree<A>,
 ) -> Result<Option<Vec<ByteSet, A>>, AllocError>
-    ensures { IfOk result (λ found. IfSome found (λ sets. IsRow (pattern tree.now) (row_of sets.items))) }
+    ensures { IfOk result (λ found. IfSome found (λ sets. IsExactRow (pattern tree.now) (row_of sets.items))) }
 {
     let mut sets = Vec::new(alloc);
     let mut tree = tree;
@@ -58,7 +58,7 @@ fn tree_suffix<A: Allocator + Copy>(
     tree: &Tree<A>,
 ) -> Result<Option<LineSuffix<A>>, AllocError>
     ensures { IfOk result (λ found. IfSome found
-        (λ suffix. (front : Pattern) × (pattern tree.now ≡ Cat front End) × IsRow front (suffix_row suffix))) }
+        (λ suffix. (front : Pattern) × (pattern tree.now ≡ Cat front End) × IsExactRow front (suffix_row suffix))) }
 {
     let Tree::Cat(front, last) = tree else {
         return Ok(None);

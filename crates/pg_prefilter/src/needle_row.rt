@@ -11,14 +11,15 @@ use pg_literal::{RowFinder, RowOutcome};
 use pg_selection::QueryText;
 use std::alloc::Allocator;
 
-/// How many lines may have the row, beyond one for each `BYTES_PER_CANDIDATE` bytes, until the rest of the block is searched line by
-/// line.
+/// How many lines may have the row, beyond one for each `BYTES_PER_CANDIDATE` bytes, until the rest of the block is
+/// searched line by line.
 const CROWD: usize = 8;
 
 /// A row of sets, by which lines are looked for.
 pub struct NeedleRow<'n, A: Allocator> {
     finder: &'n RowFinder<A>,
-    /// How many lines were found close to the one before, less one for each `BYTES_PER_CANDIDATE` bytes that were passed.
+    /// How many lines were found close to the one before, less one for each `BYTES_PER_CANDIDATE` bytes that were
+    /// passed.
     close: usize,
     /// The needles of literals that may take its place.
     literals: Option<LiteralNeedles<'n, A>>,

@@ -4,7 +4,7 @@ use Rattle.pg_pattern.specs.Patterns.{Cat, Set}
 use Rattle.pg_pattern.specs.Trees.{pattern}
 use Rattle.pg_pattern.proofs.PatternLemmas.{pattern-cat}
 use Rattle.pg_literal.specs.Rows.{row_of}
-use Rattle.pg_literal.specs.Suffixes.{IsRow}
+use Rattle.pg_literal.specs.Suffixes.{IsExactRow}
 use Rattle.pg_literal.proofs.SuffixLemmas.{Leads, leads_first, leads_more, leads_last}
 use Rattle.pg_literal.proofs.suffix.row_sets.Goals as goal
 
@@ -29,6 +29,6 @@ pub returns : goal.returns
 returns g c =
     let whole = pattern c.args.tree.now in
     let sets = c.loop-tree.sets.items in
-    subst (λ xs. IsRow whole (row_of xs)) (sym c.in_ok-push-2.ensures.items)
+    subst (λ xs. IsExactRow whole (row_of xs)) (sym c.in_ok-push-2.ensures.items)
     (leads_last whole sets c.in-Some-only_set.set
     (subst (λ p. Leads whole p sets) c.in-Some-only_set.ensures c.loop-tree.invariant))
