@@ -2,7 +2,7 @@
 use Rattle.std.specs.Prelude.{ℕ, zero, suc, ◌≡◌, ◌≢◌, ◌≤◌, ◌<◌, Bool, true, false, List, [], ◌∷◌, ◌++◌, length, drop}
 use Rattle.std.specs.Prelude.{take, ◌⊎◌, Option, None}
 use Rattle.pg_pattern.specs.Patterns.{Pattern}
-use Rattle.pg_grammar.specs.Grammar.{opening, closing, brace, unbrace, is_escaped, Body}
+use Rattle.pg_grammar.specs.Grammar.{opening, closing, brace, unbrace, is_escaped, Mark, Body}
 use Rattle.pg_grammar.specs.Intervals.{IsBounds}
 use Rattle.pg_grammar.specs.Brackets.{Element, Single, Enclosed, Inside, IsFront, member, HaveNoRange, OpensBracket}
 use Rattle.pg_grammar.specs.Brackets.{ReadsUpTo}
@@ -112,12 +112,22 @@ pub record CanGoOn (syntax : Syntax) (front : List ℕ) : Type 0 where
   pub pattern : Pattern
   pub closed : Body syntax fold (front ++ 97 ∷ closings syntax groups) pattern 0
 
+-- No expression goes on behind the front of a text and a token: one more byte, an `a`, and what closes any number of
+-- groups, make none.
+pub record CannotGoOn (syntax : Syntax) (front token : List ℕ) : Type 0 where
+  pub fold : Bool
+  pub none : (groups : ℕ) (p : Pattern) → Body syntax fold (front ++ (token ++ 97 ∷ closings syntax groups)) p 0 → ⊥
+
+-- these bytes stand in the text at this offset, and no expression goes on behind them
+abbrev pub Stops : Syntax → List ℕ → ℕ → List ℕ → Type 0
+Stops syntax text at w = Stands text at w × CannotGoOn syntax (take at text) w
+
 -- What stands where an expression has a fault of this kind, in the token that begins at the first offset: a backslash
 -- at the end, before a byte whose escape has no meaning, or before a digit from 1 to 9; a `[` that begins no bracket;
 -- in a bracket, an element that stands for no bytes, or a range that can't be; what opens an interval, but begins none;
--- what opens a group where more than 99 are open; or the end of a text that leaves a group open, or its last
--- alternative empty. Of what closes a group, of what repeats, and of a bar, the bytes alone are told. No text is at
--- fault for want of memory.
+-- what opens a group where more than 99 are open; what closes a group, what repeats, or a bar, behind which no
+-- expression goes on; or the end of a text that leaves a group open, or its last alternative empty. No text is at fault
+-- for want of memory.
 abbrev pub PlaceInToken : Syntax → FaultKind → List ℕ → (token at : ℕ) → Type 0
 PlaceInToken syntax TrailingBackslash text token at = (at ≡ token) × (drop at text ≡ 92 ∷ [])
 PlaceInToken syntax BadEscape text token at =
@@ -129,15 +139,13 @@ PlaceInToken syntax BadClass text token at = IsBadElement 58 text token at
 PlaceInToken syntax BadCollating text token at = IsBadElement 61 text token at ⊎ IsBadElement 46 text token at
 PlaceInToken syntax BadRange text token at = IsBadRange text token at
 PlaceInToken syntax UnmatchedGroup text token at = (at ≡ token)
-    × (((syntax ≡ Basic) × Stands text at (closing Basic)) ⊎ ((at ≡ length text) × LeavesOpen syntax 0 text))
+    × (((syntax ≡ Basic) × Stops Basic text at (closing Basic)) ⊎ ((at ≡ length text) × LeavesOpen syntax 0 text))
 PlaceInToken syntax BadInterval text token at = (at ≡ token) × HasNoInterval syntax text at
-PlaceInToken Basic NothingToRepeat text token at =
-    (at ≡ token) × (Stands text at (42 ∷ []) ⊎ Stands text at (brace Basic))
-PlaceInToken Extended NothingToRepeat text token at = (at ≡ token)
-    × (b : ℕ) × ((b ≡ 42) ⊎ ((b ≡ 43) ⊎ ((b ≡ 63) ⊎ (b ≡ 123)))) × Stands text at (b ∷ [])
+PlaceInToken syntax NothingToRepeat text token at = (at ≡ token)
+    × (mark : List ℕ) × (m : ℕ) × (n : Option ℕ) × Mark syntax mark m n × Stops syntax text at mark
 PlaceInToken syntax EmptyOperand text token at = (at ≡ token)
-    × (Stands text at (closing syntax)
-    ⊎ (((syntax ≡ Extended) × Stands text at (124 ∷ [])) ⊎ ((at ≡ length text) × LeavesEmpty syntax text)))
+    × (Stops syntax text at (closing syntax)
+    ⊎ (((syntax ≡ Extended) × Stops syntax text at (124 ∷ [])) ⊎ ((at ≡ length text) × LeavesEmpty syntax text)))
 PlaceInToken syntax TooDeep text token at =
     (at ≡ token) × Stands text at (opening syntax) × LeavesOpen syntax 99 (take at text)
 PlaceInToken syntax OutOfMemory text token at = ⊥

@@ -40,7 +40,7 @@ dollar_last : (fold : Bool) (s : State) → basic_token fold s 36 [] ≡ Some (A
 unfolding basic_token
 dollar_last fold s = refl
 
-abbrev found_token : Found → Token
+abbrev pub found_token : Found → Token
 found_token None = Open
 found_token (Some x) = x.0
 

@@ -1,21 +1,21 @@
 -- What is read of a text is read in the same way with other bytes behind it, which serves the places of faults.
 use Rattle.std.proofs.Common.{ℕ, zero, suc, ◌≡◌, ◌≢◌, ◌<◌, Bool, true, false, List, [], ◌∷◌, ◌++◌}
-use Rattle.std.proofs.Common.{length, take, drop, Option, Some, None, refl, sym, ap, ◌∙◌, subst}
+use Rattle.std.proofs.Common.{cond, length, take, drop, Option, Some, None, refl, sym, ap, ◌∙◌, subst}
 use Rattle.std.proofs.Common.{append_assoc, append-nil, arith}
 use Rattle.std.proofs.lemmas.List.{append_cancel_right, take-append-drop}
 use Rattle.pg_bytes.specs.Sets.{one}
-use Rattle.pg_pattern.specs.Patterns.{Pattern, Set, folded}
+use Rattle.pg_pattern.specs.Patterns.{Pattern, Set, End, folded}
 use Rattle.pg_grammar.specs.Grammar.{opening, closing, Body}
-use Rattle.pg_grammar.specs.Places.{closings, LeavesOpen, CanGoOn}
+use Rattle.pg_grammar.specs.Places.{closings, LeavesOpen, CanGoOn, CannotGoOn, Stops}
 use Rattle.pg_syntax.specs.Machine.{Level, whole, State, with_item, add, popped, Token, Part, Anchor, Repeat}
-use Rattle.pg_syntax.specs.Machine.{Open, Close, Bar, ends, token}
+use Rattle.pg_syntax.specs.Machine.{Open, Close, Bar, after, grouped, Found, ends, basic_escape, basic_token, token}
 use Rattle.pg_syntax.proofs.Reading.{next, Completes, next_some, next_no_state}
 use Rattle.pg_grammar.specs.declared.syntax.Syntax.{Syntax}
 use Rattle.pg_grammar.specs.declared.syntax.Syntax.TheVariants.{Basic, Extended}
 use Rattle.pg_syntax.proofs.TokenBytes.{token_stays}
 use Rattle.pg_syntax.proofs.Sound.{Means, ending, told, next_is}
 use Rattle.pg_syntax.proofs.Onward.{Leads, begin, onward, left_made, item_next, open_end, closed_behind}
-use Rattle.pg_syntax.proofs.Onward.{filled}
+use Rattle.pg_syntax.proofs.Onward.{filled, found_token}
 use Rattle.pg_syntax.proofs.Agreement.{stepped, stuck}
 use Rattle.pg_syntax.proofs.Complete.{complete, close_token, ends_byte}
 
@@ -157,3 +157,86 @@ module _ (syntax : Syntax) (fold : Bool) where
             (next_some syntax fold s (add q s) (97 ∷ m) m (Part q) (item_next syntax fold s m) refl)
             (left_made syntax fold (before ++ 97 ∷ m) p (led_on m) (complete syntax fold (before ++ 97 ∷ m) p b)));
       }
+
+  not_empty : (w x : List ℕ) → w ++ 97 ∷ x ≢ []
+  not_empty [] x = λ h. cc
+  not_empty (b ∷ w) x = λ h. cc
+
+  -- where the machine doesn't go on with a token, whatever stands behind it, no expression does
+  no_further : (text : List ℕ) (at : ℕ) (s : State) (w : List ℕ) → Leads syntax fold text s (drop at text)
+      → ((x : List ℕ) → ending syntax (w ++ x) ≡ ending syntax (drop at text))
+      → ((x : List ℕ) → next syntax fold s (w ++ x) ≡ None) → CannotGoOn syntax (take at text) w
+  no_further text at s w leads h e = record {
+    fold = fold;
+    none = λ groups p b.
+        let m = closings syntax groups in
+        let x = w ++ 97 ∷ m in
+        stuck syntax fold s x p (e (97 ∷ m)) (not_empty w m)
+        (left_made syntax fold (take at text ++ x) p (led text at s leads x (h (97 ∷ m)))
+        (complete syntax fold (take at text ++ x) p b));
+  }
+
+  -- a `$` can come anywhere
+  dollar_goes_on : (s : State) (u : List ℕ) (k : Token) (rest : List ℕ) → basic_token fold s 36 u ≡ Some (k, rest)
+      → after k s ≡ None → ⊥
+  unfolding basic_token
+  dollar_goes_on s u k rest e f = go (ends u) e
+    where
+      item : Token
+      item = Part (Set (folded fold (one 36)))
+
+      some : (j : Token) → j ≡ k → after j s ≡ None
+      some j h = ap (λ y. after y s) h ∙ f
+
+      go : (x : Bool) → cond {A = Found} x (Some (Anchor End, u)) (Some (item, u)) ≡ Some (k, rest) → ⊥
+      go true g = let h = some (Anchor End) (ap found_token g) in cc
+      go false g = let h = some item (ap found_token g) in cc
+
+  no_dollar : (y : Syntax) (s : State) (b : ℕ) (u : List ℕ) (k : Token) (rest : List ℕ)
+      → token y fold s (b ∷ u) ≡ Some (k, rest) → after k s ≡ None → (x : List ℕ) → b ≡ 36
+      → ending y x ≡ ending y rest
+  no_dollar Basic s b u k rest e f x is =
+      absurd (dollar_goes_on s u k rest (subst (λ y. basic_token fold s y u ≡ Some (k, rest)) is e) f)
+  no_dollar Extended s b u k rest e f x is = refl
+
+  no_next : (s : State) (t w rest : List ℕ) (k : Token) → token syntax fold s t ≡ Some (k, rest) → after k s ≡ None
+      → t ≡ w ++ rest → (x : List ℕ) → next syntax fold s (w ++ x) ≡ None
+  no_next s [] w rest k e f eq x = cc
+  no_next s (b ∷ u) w rest k e f eq x =
+      let taken = (token_stays syntax fold s b u).taken k rest e in
+      let same : taken.bytes ≡ w = append_cancel_right taken.bytes w rest (sym taken.is ∙ eq) in
+      next_no_state syntax fold s (w ++ x) x k
+      (subst (λ y. token syntax fold s (y ++ x) ≡ Some (k, x)) same
+      (taken.again x (no_dollar syntax s b u k rest e f x))) f
+
+  -- no expression goes on behind a token that can't come where it stands
+  pub stops : (text : List ℕ) (at : ℕ) (s : State) (k : Token) (w rest : List ℕ)
+      → token syntax fold s (drop at text) ≡ Some (k, rest) → after k s ≡ None → drop at text ≡ w ++ rest
+      → Means syntax fold s w rest k → Leads syntax fold text s (drop at text) → Stops syntax text at w
+  stops text at s k w rest e f eq means leads = (
+    (rest, eq),
+    no_further text at s w leads (λ x. end_kept syntax fold s w rest k means x ∙ ap (ending syntax) (sym eq))
+        (no_next s (drop at text) w rest k e f eq),
+  )
+
+module _ (fold : Bool) where
+  unopened : (s : State) (rest x : List ℕ) → token Basic fold s (92 ∷ 41 ∷ rest) ≡ None
+      → token Basic fold s (92 ∷ 41 ∷ x) ≡ None
+  unfolding basic_token basic_escape
+  unopened s rest x e = go (grouped s.outer) e
+    where
+      go : (g : Bool) → cond {A = Found} g (Some (Close, rest)) None ≡ None
+          → cond {A = Found} g (Some (Close, x)) None ≡ None
+      go true h = cc
+      go false h = refl
+
+  -- nor behind what closes a group in a basic expression, where none is open
+  pub closing_stops : (text : List ℕ) (at : ℕ) (s : State) (rest : List ℕ) → drop at text ≡ closing Basic ++ rest
+      → token Basic fold s (drop at text) ≡ None → Leads Basic fold text s (drop at text)
+      → Stops Basic text at (closing Basic)
+  closing_stops text at s rest eq e leads =
+      let f = subst (λ y. token Basic fold s y ≡ None) eq e in (
+        (rest, eq),
+        no_further Basic fold text at s (closing Basic) leads (λ x. sym (ap ends eq))
+            (λ x. rw (unopened s rest x f) refl),
+      )

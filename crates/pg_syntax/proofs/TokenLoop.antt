@@ -1,23 +1,23 @@
 -- The loop over the tokens.
-use Rattle.std.proofs.Common.{ℕ, ◌≡◌, ◌≢◌, ◌<◌, ◌≤◌, ◌↔◌, inl, inr, Bool, true, false, List, [], ◌∷◌, ◌++◌, length}
-use Rattle.std.proofs.Common.{take, drop, Option, Some, None, Err, refl, sym, ap, subst, arith, length-drop, ltb}
+use Rattle.std.proofs.Common.{ℕ, ◌≡◌, ◌≢◌, ◌<◌, ◌≤◌, ◌↔◌, ◌⊎◌, inl, inr, Bool, true, false, List, [], ◌∷◌, ◌++◌, length}
+use Rattle.std.proofs.Common.{take, drop, Some, None, Err, refl, sym, ap, subst, arith, length-drop, ltb}
 use Rattle.std.proofs.lemmas.Bool.{false≢true}
 use Rattle.std.proofs.lemmas.List.{drop_all}
 use Rattle.std.proofs.lemmas.Bool.Decides.{nat_tests}
 use Rattle.pg_pattern.specs.Patterns.{Pattern, Empty}
 use Rattle.pg_grammar.specs.Grammar as G
-use Rattle.pg_grammar.specs.Grammar.{Spells, Mark, unbrace}
+use Rattle.pg_grammar.specs.Grammar.{Spells}
 use Rattle.pg_syntax.specs.Machine as M
 use Rattle.pg_syntax.proofs.Proper.{spelled_proper}
 use Rattle.pg_syntax.specs.Machine.{State, Token, Level, start, whole, grouped, opened, token, after}
 use Rattle.pg_syntax.proofs.Reading.{next, Completes, done, step, next_some, next_no_state}
 use Rattle.pg_syntax.proofs.Onward.{Leads, begin, onward, open_end, leaves_open, leaves_empty}
-use Rattle.pg_syntax.proofs.Prefixes.{leaves_more, can_go_on}
+use Rattle.pg_syntax.proofs.Prefixes.{leaves_more, can_go_on, stops, closing_stops}
 use Rattle.pg_syntax.proofs.IntervalLemmas.{chosen}
-use Rattle.pg_grammar.specs.Places.{Place, PlaceInToken, CanGoOn}
+use Rattle.pg_grammar.specs.Places.{Stands, Place, PlaceInToken, CanGoOn, Stops}
 use Rattle.pg_grammar.specs.Results.{IsSpelled, IsRefused, IsFault, too_long}
 use Rattle.pg_syntax.specs.Expressions.{kind_of}
-use Rattle.pg_syntax.specs.Tokens.{blame, Applies}
+use Rattle.pg_syntax.specs.Tokens.{IsUnopened, blame, Applies}
 use Rattle.pg_grammar.specs.declared.syntax.Syntax.{Syntax}
 use Rattle.pg_grammar.specs.declared.syntax.Syntax.TheVariants.{Basic, Extended}
 use Rattle.pg_grammar.specs.declared.fault.SyntaxFault.{SyntaxFault}
@@ -112,19 +112,6 @@ module _ (syntax : Syntax) (fold : Bool) where
     proper = spelled_proper (read syntax fold text p l ((keeps p).1 (finish s.outer s.level p g w)));
   }
 
-  -- the fault of a token stands where it stands
-  mark_place : (x : Syntax) (text : List ℕ) (at : ℕ) (w rest : List ℕ) (m : ℕ) (n : Option ℕ) → Mark x w m n
-      → drop at text ≡ w ++ rest → PlaceInToken x (blame (M.Repeat m n)) text at at
-  mark_place Basic text at w rest m n G.star e = (refl, inl (rest, e))
-  mark_place Basic text at w rest m n (G.plus x) e = cc
-  mark_place Basic text at w rest m n (G.question x) e = cc
-  mark_place Basic text at w rest m n (G.interval {t = t} b) e = (refl, inr ((t ++ unbrace Basic) ++ rest, e))
-  mark_place Extended text at w rest m n G.star e = (refl, 42, inl refl, (rest, e))
-  mark_place Extended text at w rest m n (G.plus x) e = (refl, 43, inr (inl refl), (rest, e))
-  mark_place Extended text at w rest m n (G.question x) e = (refl, 63, inr (inr (inl refl)), (rest, e))
-  mark_place Extended text at w rest m n (G.interval {t = t} b) e =
-      (refl, 123, inr (inr (inr refl)), ((t ++ unbrace Extended) ++ rest, e))
-
   -- a group is refused within 100 others
   below : (n : ℕ) → ltb n 100 ≡ false → 99 < n
   below n e = grind (arith, nat_tests)
@@ -142,25 +129,44 @@ module _ (syntax : Syntax) (fold : Bool) where
   token_place text at s (M.Anchor p) rest e f leads = cc
   token_place text at s (M.Repeat m n) rest e f leads =
       let (w, eq, means) = told syntax fold s (drop at text) (M.Repeat m n) rest e in
-      mark_place syntax text at w rest m n means.1 eq
+      (refl, w, m, n, means.1, stops syntax fold text at s (M.Repeat m n) w rest e f eq means leads)
   token_place text at s M.Open rest e f leads =
       let (w, eq, means) = told syntax fold s (drop at text) M.Open rest e in
       let opens = subst (λ y. drop at text ≡ y ++ rest) means.1 eq in
       (refl, (rest, opens), leaves_more syntax fold 99 text at s rest (too_many s f) opens leads)
   token_place text at s M.Close rest e f leads =
       let (w, eq, means) = told syntax fold s (drop at text) M.Close rest e in
-      (refl, inl (rest, subst (λ y. drop at text ≡ y ++ rest) means eq))
+      (refl, inl (subst (Stops syntax text at) means (stops syntax fold text at s M.Close w rest e f eq means leads)))
   token_place text at s M.Bar rest e f leads =
       let (w, eq, means) = told syntax fold s (drop at text) M.Bar rest e in
-      (refl, inr (inl (means.1, (rest, subst (λ y. drop at text ≡ y ++ rest) means.2 eq))))
+      let none = stops syntax fold text at s M.Bar w rest e f eq means leads in
+      (refl, inr (inl (means.1, subst (Stops syntax text at) means.2 none)))
+
+  -- what closes no group stands where no token is found
+  unopened_place : (x : Syntax) (text : List ℕ) (at : ℕ) (s : State) → token x fold s (drop at text) ≡ None
+      → Leads x fold text s (drop at text) → x ≡ Basic → Stands text at (G.closing Basic)
+      → PlaceInToken x UnmatchedGroup text at at
+  unopened_place Basic text at s e leads is (rest, eq) =
+      (refl, inl (refl, closing_stops fold text at s rest eq e leads))
+  unopened_place Extended text at s e leads is (rest, eq) = cc
+
+  no_token_place : (text : List ℕ) (at : ℕ) (s : State) (f : SyntaxFault) → token syntax fold s (drop at text) ≡ None
+      → Leads syntax fold text s (drop at text) → IsUnopened syntax text at f ⊎ PlaceInToken syntax f.kind text at f.at
+      → PlaceInToken syntax f.kind text at f.at
+  no_token_place text at s f e leads (inl h) =
+      subst (λ y. PlaceInToken syntax y.kind text at y.at) (sym h.0)
+      (unopened_place syntax text at s e leads h.1 h.2)
+  no_token_place text at s f e leads (inr h) = h
 
   pub no_token_fault : (text : List ℕ) (at : ℕ) (s : State) (f : SyntaxFault) → length text ≤ 4096 → text ≢ []
-      → drop at text ≢ [] → token syntax fold s (drop at text) ≡ None → PlaceInToken syntax f.kind text at f.at
+      → drop at text ≢ [] → token syntax fold s (drop at text) ≡ None
+      → IsUnopened syntax text at f ⊎ PlaceInToken syntax f.kind text at f.at
       → Keeps syntax fold text s (drop at text) → Leads syntax fold text s (drop at text)
       → IsFault (kind_of syntax) fold text f
   no_token_fault text at s f l n m e place keeps leads = inr (record {
     none = no_token text s (drop at text) n m e keeps;
-    place = place_of syntax f.kind text at f.at (can_go_on syntax fold text at s leads) place;
+    place = place_of syntax f.kind text at f.at (can_go_on syntax fold text at s leads)
+        (no_token_place text at s f e leads place);
     long = λ h. absurd (omega arith);
   })
 

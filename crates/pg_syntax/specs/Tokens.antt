@@ -5,15 +5,18 @@ use Rattle.pg_bytes.specs.ByteSets.{bytes}
 use Rattle.pg_bytes.specs.declared.byte_set.ByteSet.{ByteSet}
 use Rattle.pg_pattern.specs.Patterns as P
 use Rattle.pg_syntax.specs.Machine as M
-use Rattle.pg_grammar.specs.Places.{PlaceInToken}
+use Rattle.pg_grammar.specs.Grammar.{closing}
+use Rattle.pg_grammar.specs.Places.{Stands, PlaceInToken}
 use Rattle.pg_syntax.specs.BracketPlaces.{BracketPlace}
 use Rattle.pg_grammar.specs.Results.{out_of_memory}
 use Rattle.pg_grammar.specs.declared.syntax.Syntax.{Syntax}
+use Rattle.pg_grammar.specs.declared.syntax.Syntax.TheVariants as S
 use Rattle.pg_syntax.specs.declared.token.Token.{Token}
 use Rattle.pg_syntax.specs.declared.token.Token.TheVariants.{Set, Begin, LastEnd, End, Repeat, Open, Close, Bar}
 use Rattle.pg_grammar.specs.declared.fault.SyntaxFault.{SyntaxFault}
 use Rattle.pg_grammar.specs.declared.fault.FaultKind.{FaultKind}
-use Rattle.pg_grammar.specs.declared.fault.FaultKind.TheVariants.{NothingToRepeat, EmptyOperand, TooDeep, OutOfMemory}
+use Rattle.pg_grammar.specs.declared.fault.FaultKind.TheVariants.{UnmatchedGroup, NothingToRepeat, EmptyOperand}
+use Rattle.pg_grammar.specs.declared.fault.FaultKind.TheVariants.{TooDeep, OutOfMemory}
 
 -- the token with its set as a set of numbers
 abbrev pub token_of : Token → M.Token
@@ -26,10 +29,17 @@ token_of Open = M.Open
 token_of Close = M.Close
 token_of Bar = M.Bar
 
--- the token that is found, and the offset after it; or a fault at its place in the token here, and nothing is found
+-- what closes a group stands here in a basic expression, and closes none
+abbrev pub IsUnopened : Syntax → List ℕ → ℕ → SyntaxFault → Type 0
+IsUnopened syntax text at f =
+    (f ≡ record { kind = UnmatchedGroup; at = at }) × (syntax ≡ S.Basic) × Stands text at (closing S.Basic)
+
+-- the token that is found, and the offset after it; or a fault at its place in the token here, or at what closes no
+-- group, and nothing is found
 abbrev pub Finds : Syntax → List ℕ → ℕ → Result (Token × ℕ) SyntaxFault → M.Found → Type 0
 Finds syntax text at (Ok x) found = (found ≡ Some (token_of x.0, drop x.1 text)) × (at < x.1) × (x.1 ≤ length text)
-Finds syntax text at (Err f) found = (found ≡ None) × PlaceInToken syntax f.kind text at f.at
+Finds syntax text at (Err f) found =
+    (found ≡ None) × (IsUnopened syntax text at f ⊎ PlaceInToken syntax f.kind text at f.at)
 
 -- the set of the bracket that is found, and the offset after it; or a fault at its place in an expression
 abbrev pub FindsBracket : Syntax → List ℕ → ℕ → Result (ByteSet × ℕ) SyntaxFault → Option (Bytes × List ℕ) → Type 0

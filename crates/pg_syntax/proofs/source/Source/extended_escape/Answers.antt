@@ -1,4 +1,4 @@
-use Rattle.std.proofs.Common.{arith, drop, ◌+◌, ◌∙◌, ap, ◌∷◌, sym}
+use Rattle.std.proofs.Common.{arith, drop, ◌+◌, ◌∙◌, ap, ◌∷◌, inr, sym}
 use Rattle.std.proofs.lemmas.Grind.{common_steps}
 use Rattle.pg_syntax.specs.Machine.{extended_escape}
 use Rattle.pg_syntax.proofs.Escapes.{unescaped_extended}
@@ -9,7 +9,7 @@ pub returns : goal.returns
 unfolding extended_escape
 returns c = (
   grind (arith, common_steps),
-  c.escape_fault.ensures Extended c.args.self.now.text.now (drop (c.args.at + 1 + 1) c.args.self.now.text.now)
+  inr (c.escape_fault.ensures Extended c.args.self.now.text.now (drop (c.args.at + 1 + 1) c.args.self.now.text.now)
       (unescaped_extended c.in-Some.byte (sym c.is_escaped.ensures ∙ c.if-is_escaped.false))
-      (c.requires.backslash ∙ ap (λ t. 92 ∷ t) c.in-Some.ensures.0),
+      (c.requires.backslash ∙ ap (λ t. 92 ∷ t) c.in-Some.ensures.0)),
 )
