@@ -119,8 +119,8 @@ pub record CannotGoOn (syntax : Syntax) (front token : List ℕ) : Type 0 where
   pub none : (groups : ℕ) (p : Pattern) → Body syntax fold (front ++ (token ++ 97 ∷ closings syntax groups)) p 0 → ⊥
 
 -- these bytes stand in the text at this offset, and no expression goes on behind them
-abbrev pub Stops : Syntax → List ℕ → ℕ → List ℕ → Type 0
-Stops syntax text at w = Stands text at w × CannotGoOn syntax (take at text) w
+abbrev pub IsMisplaced : Syntax → List ℕ → ℕ → List ℕ → Type 0
+IsMisplaced syntax text at w = Stands text at w × CannotGoOn syntax (take at text) w
 
 -- What stands where an expression has a fault of this kind, in the token that begins at the first offset: a backslash
 -- at the end, before a byte whose escape has no meaning, or before a digit from 1 to 9; a `[` that begins no bracket;
@@ -139,13 +139,13 @@ PlaceInToken syntax BadClass text token at = IsBadElement 58 text token at
 PlaceInToken syntax BadCollating text token at = IsBadElement 61 text token at ⊎ IsBadElement 46 text token at
 PlaceInToken syntax BadRange text token at = IsBadRange text token at
 PlaceInToken syntax UnmatchedGroup text token at = (at ≡ token)
-    × (((syntax ≡ Basic) × Stops Basic text at (closing Basic)) ⊎ ((at ≡ length text) × LeavesOpen syntax 0 text))
+    × (((syntax ≡ Basic) × IsMisplaced Basic text at (closing Basic)) ⊎ ((at ≡ length text) × LeavesOpen syntax 0 text))
 PlaceInToken syntax BadInterval text token at = (at ≡ token) × HasNoInterval syntax text at
 PlaceInToken syntax NothingToRepeat text token at = (at ≡ token)
-    × (mark : List ℕ) × (m : ℕ) × (n : Option ℕ) × Mark syntax mark m n × Stops syntax text at mark
+    × (mark : List ℕ) × (m : ℕ) × (n : Option ℕ) × Mark syntax mark m n × IsMisplaced syntax text at mark
 PlaceInToken syntax EmptyOperand text token at = (at ≡ token)
-    × (Stops syntax text at (closing syntax)
-    ⊎ (((syntax ≡ Extended) × Stops syntax text at (124 ∷ [])) ⊎ ((at ≡ length text) × LeavesEmpty syntax text)))
+    × (IsMisplaced syntax text at (closing syntax)
+    ⊎ (((syntax ≡ Extended) × IsMisplaced syntax text at (124 ∷ [])) ⊎ ((at ≡ length text) × LeavesEmpty syntax text)))
 PlaceInToken syntax TooDeep text token at =
     (at ≡ token) × Stands text at (opening syntax) × LeavesOpen syntax 99 (take at text)
 PlaceInToken syntax OutOfMemory text token at = ⊥

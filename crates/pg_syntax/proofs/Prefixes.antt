@@ -6,7 +6,7 @@ use Rattle.std.proofs.lemmas.List.{append_cancel_right, take-append-drop}
 use Rattle.pg_bytes.specs.Sets.{one}
 use Rattle.pg_pattern.specs.Patterns.{Pattern, Set, End, folded}
 use Rattle.pg_grammar.specs.Grammar.{opening, closing, Body}
-use Rattle.pg_grammar.specs.Places.{closings, LeavesOpen, CanGoOn, CannotGoOn, Stops}
+use Rattle.pg_grammar.specs.Places.{closings, LeavesOpen, CanGoOn, CannotGoOn, IsMisplaced}
 use Rattle.pg_syntax.specs.Machine.{Level, whole, State, with_item, add, popped, Token, Part, Anchor, Repeat}
 use Rattle.pg_syntax.specs.Machine.{Open, Close, Bar, after, grouped, Found, ends, basic_escape, basic_token, token}
 use Rattle.pg_syntax.proofs.Reading.{next, Completes, next_some, next_no_state}
@@ -212,7 +212,7 @@ module _ (syntax : Syntax) (fold : Bool) where
   -- no expression goes on behind a token that can't come where it stands
   pub stops : (text : List ℕ) (at : ℕ) (s : State) (k : Token) (w rest : List ℕ)
       → token syntax fold s (drop at text) ≡ Some (k, rest) → after k s ≡ None → drop at text ≡ w ++ rest
-      → Means syntax fold s w rest k → Leads syntax fold text s (drop at text) → Stops syntax text at w
+      → Means syntax fold s w rest k → Leads syntax fold text s (drop at text) → IsMisplaced syntax text at w
   stops text at s k w rest e f eq means leads = (
     (rest, eq),
     no_further text at s w leads (λ x. end_kept syntax fold s w rest k means x ∙ ap (ending syntax) (sym eq))
@@ -233,7 +233,7 @@ module _ (fold : Bool) where
   -- nor behind what closes a group in a basic expression, where none is open
   pub closing_stops : (text : List ℕ) (at : ℕ) (s : State) (rest : List ℕ) → drop at text ≡ closing Basic ++ rest
       → token Basic fold s (drop at text) ≡ None → Leads Basic fold text s (drop at text)
-      → Stops Basic text at (closing Basic)
+      → IsMisplaced Basic text at (closing Basic)
   closing_stops text at s rest eq e leads =
       let f = subst (λ y. token Basic fold s y ≡ None) eq e in (
         (rest, eq),

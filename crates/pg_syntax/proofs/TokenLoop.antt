@@ -14,7 +14,7 @@ use Rattle.pg_syntax.proofs.Reading.{next, Completes, done, step, next_some, nex
 use Rattle.pg_syntax.proofs.Onward.{Leads, begin, onward, open_end, leaves_open, leaves_empty}
 use Rattle.pg_syntax.proofs.Prefixes.{leaves_more, can_go_on, stops, closing_stops}
 use Rattle.pg_syntax.proofs.IntervalLemmas.{chosen}
-use Rattle.pg_grammar.specs.Places.{Stands, Place, PlaceInToken, CanGoOn, Stops}
+use Rattle.pg_grammar.specs.Places.{Stands, Place, PlaceInToken, CanGoOn, IsMisplaced}
 use Rattle.pg_grammar.specs.Results.{IsSpelled, IsRefused, IsFault, too_long}
 use Rattle.pg_syntax.specs.Expressions.{kind_of}
 use Rattle.pg_syntax.specs.Tokens.{IsUnopened, blame, Applies}
@@ -135,12 +135,15 @@ module _ (syntax : Syntax) (fold : Bool) where
       let opens = subst (λ y. drop at text ≡ y ++ rest) means.1 eq in
       (refl, (rest, opens), leaves_more syntax fold 99 text at s rest (too_many s f) opens leads)
   token_place text at s M.Close rest e f leads =
-      let (w, eq, means) = told syntax fold s (drop at text) M.Close rest e in
-      (refl, inl (subst (Stops syntax text at) means (stops syntax fold text at s M.Close w rest e f eq means leads)))
+      let (w, eq, means) = told syntax fold s (drop at text) M.Close rest e in (
+        refl,
+        inl (subst (IsMisplaced syntax text at) means
+            (stops syntax fold text at s M.Close w rest e f eq means leads)),
+      )
   token_place text at s M.Bar rest e f leads =
       let (w, eq, means) = told syntax fold s (drop at text) M.Bar rest e in
       let none = stops syntax fold text at s M.Bar w rest e f eq means leads in
-      (refl, inr (inl (means.1, subst (Stops syntax text at) means.2 none)))
+      (refl, inr (inl (means.1, subst (IsMisplaced syntax text at) means.2 none)))
 
   -- what closes no group stands where no token is found
   unopened_place : (x : Syntax) (text : List ℕ) (at : ℕ) (s : State) → token x fold s (drop at text) ≡ None
