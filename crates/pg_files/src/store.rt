@@ -36,8 +36,8 @@ pub trait Store {
     /// Nothing rests on the answer but when rows are written.
     fn may_wait(&self) -> bool;
 
-    /// Reads the next bytes of the open file into the front of a buffer that isn't empty. Neither its end nor a failure
-    /// was met before.
+    /// Reads the next bytes of the open file into the front of a buffer that isn't empty. A file is open, whose end
+    /// wasn't met and of which no read failed.
     ///
     /// `Ok(k)` says that these are the buffer's first k bytes. `Ok(0)` is the file's end.
     ///

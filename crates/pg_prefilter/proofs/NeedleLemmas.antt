@@ -3,7 +3,7 @@ use Rattle.std.proofs.Common.{◌≡◌, ◌<◌, ◌≤◌, ◌+◌, ◌-◌, �
 use Rattle.std.proofs.Common.{inr}
 use Rattle.std.proofs.Common.{List, [], ◌∷◌, length, get_or, set, map, take, drop, cond, refl, sym, ap, ◌∙◌, subst}
 use Rattle.std.proofs.Common.{arith, length-drop}
-use Rattle.std.specs.Option.{IfSome, IsSomeAnd}
+use Rattle.std.specs.Option.{IfNone, IfSome, IsSomeAnd}
 use Rattle.std.specs.List.{All, Any, Contains}
 use Rattle.std.proofs.lemmas.Bool.{cases_lt}
 use Rattle.std.proofs.lemmas.List.{drop_at, length-take-le, take-append-drop, length-map}
@@ -43,6 +43,11 @@ occurs_part xs p at k within o = record {
       let same : at + (k + j) ≡ at + k + j = omega arith in
       get_or-drop at xs (k + j) 0 ∙ (ap (λ n. get_or xs n 0) same ∙ o.reads j less);
 }
+
+-- what holds anyway holds where there is nothing
+pub if_none : {X : Type 0} (P : Type 0) (o : Option X) → P → IfNone o P
+if_none P None p = p
+if_none P (Some x) p = tt
 
 -- where a needle's next place is
 abbrev pub IsNext : List ℕ → ℕ → List ℕ → Option ℕ → Type 0
@@ -191,6 +196,13 @@ module _ (fold : Bool) (bytes searched : List ℕ) (at : ℕ) (needles : List Ne
           → p ≤ m
       not_before p m None before some = absurd some
       not_before p m (Some n) before some = omega arith
+
+  -- a needle that was looked for stands within the bytes
+  pub stands_within : (place : Place) → All (IsFoundBehind searched at) needles → Any (StandsAt place) needles
+      → place.at ≤ length bytes
+  stands_within place found stands =
+      let here = least_found searched at needles place found stands in
+      omega (arith, here.1.fits, searched_length fold bytes searched is)
 
   -- the line around the least place
   pub line_of_least : (end : ℕ) (place : Place) (found : Candidate) → byte_as_searched fold end ≡ end

@@ -63,7 +63,8 @@ impl<'n, A: Allocator> LiteralNeedles<'n, A> {
         }
     }
 
-    /// The first line at or behind a place of a block, or its end, that holds one of the literals.
+    /// The first line at or behind a place of a block, or its end, that holds one of the literals. They are needles of
+    /// the text in the block, as they are from that place on, and there is one.
     pub fn next_line(&mut self, text: &QueryText<A>, bytes: &[u8], at: usize) -> NextLine
         requires at { at ≤ length bytes.now }
         requires needles { AreLiteralNeedles text.now bytes.now at self.old }
@@ -73,7 +74,10 @@ impl<'n, A: Allocator> LiteralNeedles<'n, A> {
         ensures next { IsNextWith text.now.fold (terminator_of text.now) (literals_of self.new) at bytes.now result }
     {
         match self {
-            LiteralNeedles::Few(list) => list.next_line(text, bytes, at),
+            LiteralNeedles::Few(list) => match list.next_line(text, bytes, at) {
+                Some(found) => NextLine::Found(found),
+                None => NextLine::Nowhere,
+            },
             LiteralNeedles::Many(set) => set.next_line(text, bytes, at),
         }
     }

@@ -1,13 +1,13 @@
 //! Where the literals of a query stand in a block.
-ghost use Rattle.std.specs.Prelude.{◌≡◌, ◌⊎◌, ◌<◌, ◌≤◌, ◌==◌, ℕ, List, length, map};
-ghost use Rattle.std.specs.Prelude.{IfOk, IfSome, IsSomeAnd};
+ghost use Rattle.std.specs.Prelude.{◌≡◌, ◌⊎◌, ◌<◌, ◌≤◌, ◌==◌, ℕ, List, length, map, drop};
+ghost use Rattle.std.specs.Prelude.{IfOk, IfSome, IfNone, IsSomeAnd};
 ghost use Rattle.std.specs.List.{All, Any};
 ghost use Rattle.pg_selection.specs.Search.{terminator_of};
 ghost use Rattle.pg_prefilter.specs.Literals.{data_of};
 ghost use Rattle.pg_prefilter.specs.Candidates.{literal_of, IsAhead, StandsAt, IsBefore, IsNeedleList};
-ghost use Rattle.pg_prefilter.specs.Candidates.{IsFoundBehind, IsNextWith};
+ghost use Rattle.pg_prefilter.specs.Candidates.{AreWithout, IsFirstWith, IsFoundBehind};
 
-use crate::candidate::{Candidate, NextLine};
+use crate::candidate::Candidate;
 use memchr::memmem::Finder;
 use pg_literal::Literal;
 use pg_selection::QueryText;
@@ -160,28 +160,24 @@ impl<'n, A: Allocator> NeedleList<'n, A> {
     }
 
     /// The first line at or behind a place that holds a needle.
-    pub fn next_line(&mut self, text: &QueryText<A>, bytes: &[u8], at: usize) -> NextLine
+    pub fn next_line(&mut self, text: &QueryText<A>, bytes: &[u8], at: usize) -> Option<Candidate>
         requires at { at ≤ length bytes.now }
         requires needles { IsNeedleList text.now bytes.now at self.old }
         requires some { 0 < length self.old.needles.items }
         ensures needles { IsNeedleList text.now bytes.now at self.new }
         ensures literals { map literal_of self.new.needles.items ≡ map literal_of self.old.needles.items }
-        ensures next { IsNextWith text.now.fold (terminator_of text.now)
-            (map literal_of self.new.needles.items) at bytes.now result }
+        ensures within { IfSome result (λ found. (at ≤ found.line.start) × (found.line.start < found.line.end)
+            × (found.line.end ≤ length bytes.now)) }
+        ensures some { IfSome result (IsFirstWith text.now.fold (terminator_of text.now)
+            (map literal_of self.new.needles.items) at (drop at bytes.now)) }
+        ensures none { IfNone result (AreWithout text.now.fold (terminator_of text.now)
+            (map literal_of self.new.needles.items) (drop at bytes.now)) }
     {
         if at == bytes.len() {
-            return NextLine::Nowhere;
+            return None;
         }
         self.advance(at);
-        match self.first() {
-            Some(first) => NextLine::Found(Candidate::around(
-                text.terminator(),
-                bytes,
-                at,
-                first.at,
-                first.is_enough,
-            )),
-            None => NextLine::Nowhere,
-        }
+        let first = self.first()?;
+        Some(Candidate::around(text.terminator(), bytes, at, first.at, first.is_enough))
     }
 }

@@ -104,7 +104,8 @@ fn read_file<'a, S: Store>(
     }
 }
 
-/// Adds the bytes of the open file behind those that it gave before, to its end or to a read that fails.
+/// Adds the bytes of the open file behind those that it gave before, to its end or to a read that fails. Neither was met
+/// before.
 fn read_to_end<S: Store>(
     alloc: Global,
     bytes: &mut Vec<u8>,

@@ -17,7 +17,7 @@ use Rattle.pg_syntax.proofs.IntervalLemmas.{chosen}
 use Rattle.pg_grammar.specs.Places.{Stands, Place, PlaceInToken, CanGoOn, IsMisplaced}
 use Rattle.pg_grammar.specs.Results.{IsSpelled, IsRefused, IsFault, too_long}
 use Rattle.pg_syntax.specs.Expressions.{kind_of}
-use Rattle.pg_syntax.specs.Tokens.{IsUnopened, blame, Applies}
+use Rattle.pg_syntax.specs.Tokens.{ClosesNone, blame, Applies}
 use Rattle.pg_grammar.specs.declared.syntax.Syntax.{Syntax}
 use Rattle.pg_grammar.specs.declared.syntax.Syntax.TheVariants.{Basic, Extended}
 use Rattle.pg_grammar.specs.declared.fault.SyntaxFault.{SyntaxFault}
@@ -154,7 +154,7 @@ module _ (syntax : Syntax) (fold : Bool) where
   unopened_place Extended text at s e leads is (rest, eq) = cc
 
   no_token_place : (text : List ℕ) (at : ℕ) (s : State) (f : SyntaxFault) → token syntax fold s (drop at text) ≡ None
-      → Leads syntax fold text s (drop at text) → IsUnopened syntax text at f ⊎ PlaceInToken syntax f.kind text at f.at
+      → Leads syntax fold text s (drop at text) → ClosesNone syntax text at f ⊎ PlaceInToken syntax f.kind text at f.at
       → PlaceInToken syntax f.kind text at f.at
   no_token_place text at s f e leads (inl h) =
       subst (λ y. PlaceInToken syntax y.kind text at y.at) (sym h.0)
@@ -163,7 +163,7 @@ module _ (syntax : Syntax) (fold : Bool) where
 
   pub no_token_fault : (text : List ℕ) (at : ℕ) (s : State) (f : SyntaxFault) → length text ≤ 4096 → text ≢ []
       → drop at text ≢ [] → token syntax fold s (drop at text) ≡ None
-      → IsUnopened syntax text at f ⊎ PlaceInToken syntax f.kind text at f.at
+      → ClosesNone syntax text at f ⊎ PlaceInToken syntax f.kind text at f.at
       → Keeps syntax fold text s (drop at text) → Leads syntax fold text s (drop at text)
       → IsFault (kind_of syntax) fold text f
   no_token_fault text at s f l n m e place keeps leads = inr (record {

@@ -30,8 +30,8 @@ token_of Close = M.Close
 token_of Bar = M.Bar
 
 -- what closes a group stands here in a basic expression, and closes none
-abbrev pub IsUnopened : Syntax → List ℕ → ℕ → SyntaxFault → Type 0
-IsUnopened syntax text at f =
+abbrev pub ClosesNone : Syntax → List ℕ → ℕ → SyntaxFault → Type 0
+ClosesNone syntax text at f =
     (f ≡ record { kind = UnmatchedGroup; at = at }) × (syntax ≡ S.Basic) × Stands text at (closing S.Basic)
 
 -- the token that is found, and the offset after it; or a fault at its place in the token here, or at what closes no
@@ -39,7 +39,7 @@ IsUnopened syntax text at f =
 abbrev pub Finds : Syntax → List ℕ → ℕ → Result (Token × ℕ) SyntaxFault → M.Found → Type 0
 Finds syntax text at (Ok x) found = (found ≡ Some (token_of x.0, drop x.1 text)) × (at < x.1) × (x.1 ≤ length text)
 Finds syntax text at (Err f) found =
-    (found ≡ None) × (IsUnopened syntax text at f ⊎ PlaceInToken syntax f.kind text at f.at)
+    (found ≡ None) × (ClosesNone syntax text at f ⊎ PlaceInToken syntax f.kind text at f.at)
 
 -- the set of the bracket that is found, and the offset after it; or a fault at its place in an expression
 abbrev pub FindsBracket : Syntax → List ℕ → ℕ → Result (ByteSet × ℕ) SyntaxFault → Option (Bytes × List ℕ) → Type 0
