@@ -1,4 +1,4 @@
--- What remembered sets tell of the runs that began at one place.
+-- What the DFA cache tells of the runs that began at one place.
 use Rattle.std.proofs.Common.{◌≡◌, ◌≢◌, ℕ, zero, suc, ◌+◌, ◌*◌, ◌/◌, ◌<◌, ◌≤◌, ◌⊎◌, ◌↔◌, inl, inr, List, length, get_or}
 use Rattle.std.proofs.Common.{Bool, true, false, true≢false, not, eqb, ne_eqb, Option, Some, None, refl, sym, ap, ◌∙◌}
 use Rattle.std.proofs.Common.{subst, arith, IsTrue, length-set, get_or-set_same, get_or-set_other}
@@ -6,18 +6,18 @@ use Rattle.std.specs.Prelude.{IfSome, slice_index, slice_get}
 use Rattle.std.proofs.lemmas.List.{get_or_read}
 use Rattle.std.proofs.lemmas.Option.{slice_get-get_or}
 use Rattle.std.proofs.lemmas.Bool.{cases_eq, cases_lt}
-use Rattle.pg_match.specs.Anchored.{GoesAlone, ToldAlone, IsAnchoredMemoryOf, start_row}
+use Rattle.pg_match.specs.Anchored.{GoesAlone, ToldAlone, IsAnchoredDfaOf, start_row}
 use Rattle.pg_match.specs.Anchored.{NothingBefore, TellsKnownSpan, known_span_of, StandsFrom, NoEnd, IsLastEnd, Follows}
 use Rattle.pg_match.specs.Anchored.{IsLongestFrom}
 use Rattle.pg_match.specs.Automata.{Nfa, Runs, IsRunnable}
 use Rattle.pg_pattern.specs.Bounds.{MayBegin, MayEnd}
-use Rattle.pg_match.specs.Memories.{Remembered, ended, fresh_at, In, Same, IsShape, IsBlank, Keeps}
-use Rattle.pg_match.specs.Memories.{Grown, Marked, MarkedEnd, IsAtRow}
+use Rattle.pg_match.specs.Dfas.{Dfa, ended, flag_at, In, Same, IsShape, IsBlank, Keeps}
+use Rattle.pg_match.specs.Dfas.{Grown, Marked, MarkedEnd, IsAtRow}
 use Rattle.pg_match.specs.Searches.{IsBest}
 use Rattle.pg_match.specs.Starts.{GoesOn}
 use Rattle.pg_match.specs.StateSets.{Members, mark, IsGood}
 use Rattle.pg_match.specs.Steps.{Has, Starts, ReadsNone, HitAtEnd, NoHitAtEnd, AnswersEnd}
-use Rattle.pg_match.specs.Views.{remembered, RemembersAnchored}
+use Rattle.pg_match.specs.Views.{dfa, CachesAnchoredDfaOf}
 use Rattle.pg_match.specs.declared.dfa_cache.Cache.{Cache}
 use Rattle.pg_match.specs.declared.state.State.{State}
 use Rattle.pg_match.proofs.CacheLemmas.{answers_same, nothing_known, row_of, at_row, same_back, same_on, sets_keep}
@@ -246,7 +246,7 @@ module _ (m : Nfa) (l : List ℕ) (s : ℕ) (is_m : IsRunnable m) where
         λ v j ge less within other. (ge, λ same. omega arith),
       )
 
-module _ (m : Nfa) (t : Remembered) (is : IsAnchoredMemoryOf m t) where
+module _ (m : Nfa) (t : Dfa) (is : IsAnchoredDfaOf m t) where
   pub in_steps : (state b : ℕ) → IsAtRow t state → b < 256 → state + b < length t.steps
   in_steps state b s lt = omega (arith, is.shape.steps_size, is.shape.few, s.row, s.known)
 
@@ -319,17 +319,17 @@ module _ (m : Nfa) (t : Remembered) (is : IsAnchoredMemoryOf m t) where
       pub behind_byte : (v / 256 ≤ t.count) × StandsFrom m l s (p + 1) (In t (v / 256))
       behind_byte = (step.0.known, stands)
 
-      pub in_flags : v / 256 < length t.fresh
-      in_flags = omega (arith, in_rows v step.0, is.shape.fresh_size)
+      pub in_flags : v / 256 < length t.flags
+      in_flags = omega (arith, in_rows v step.0, is.shape.flags_size)
 
-      accepts : (flag : Bool) → flag ≡ get_or t.fresh (v / 256) flag → (flag ≡ true) ↔ In t (v / 256) 0
+      accepts : (flag : Bool) → flag ≡ get_or t.flags (v / 256) flag → (flag ≡ true) ↔ In t (v / 256) 0
       accepts flag flagged =
-          let same = get_or_read t.fresh (v / 256) flag in_flags flagged false in
+          let same = get_or_read t.flags (v / 256) flag in_flags flagged false in
           let so = is.accepts (v / 256) step.1 step.0.known in
           (λ e. so.0 (sym same ∙ e), λ h. same ∙ so.1 h)
 
       -- on to the next row, where no end is found
-      pub follows_on : (flag : Bool) → flag ≡ get_or t.fresh (v / 256) flag
+      pub follows_on : (flag : Bool) → flag ≡ get_or t.flags (v / 256) flag
           → (flag ≡ true → MayEnd m.bounds l (p + 1) → ⊥) → Follows m t l s (p + 1) v last
       follows_on flag flagged refused = record {
         onward = omega (arith, f.onward);
@@ -340,7 +340,7 @@ module _ (m : Nfa) (t : Remembered) (is : IsAnchoredMemoryOf m t) where
       }
 
       -- and where one is
-      pub follows_end : (flag : Bool) → flag ≡ get_or t.fresh (v / 256) flag → flag ≡ true
+      pub follows_end : (flag : Bool) → flag ≡ get_or t.flags (v / 256) flag → flag ≡ true
           → MayEnd m.bounds l (p + 1) → Follows m t l s (p + 1) v (Some (p + 1))
       follows_end flag flagged is_so may = record {
         onward = omega (arith, f.onward);
@@ -370,7 +370,7 @@ module _ (m : Nfa) (t : Remembered) (is : IsAnchoredMemoryOf m t) where
   ends_told r read told answer here so same =
       subst (AnswersEnd m false (In t r)) same (is.told_end r told (sym here ∙ so)).1
 
-told_moves : (m : Nfa) (old new : Remembered) (r b v : ℕ) → Keeps old new → r ≤ old.count → ToldAlone m old r b v
+told_moves : (m : Nfa) (old new : Dfa) (r b v : ℕ) → Keeps old new → r ≤ old.count → ToldAlone m old r b v
     → ToldAlone m new r b v
 told_moves m old new r b v k le (inl unknown) = inl unknown
 told_moves m old new r b v k le (inr (inl dead)) =
@@ -385,16 +385,16 @@ told_moves m old new r b v k le (inr (inr go)) =
       alone_same m.states b (In old r) (In new r) (In old go.0) (In new go.0) (k.sets r le) (k.sets go.0 go.3) go.4,
     ))
 
--- the memory of a table that keeps the rows, where each cell is blank, or is an old one, or is told
-moved : (m : Nfa) (old new : Remembered) → IsAnchoredMemoryOf m old → IsShape (length m.states) new → Keeps old new
+-- the DFA of a cache that keeps the rows, where each step is blank, or is an old one, or is told
+moved : (m : Nfa) (old new : Dfa) → IsAnchoredDfaOf m old → IsShape (length m.states) new → Keeps old new
     → ((r b : ℕ) → r ≤ new.count → b < 256 → (slice_index new.steps (256 * r + b) ≡ slice_index old.steps (256 * r + b))
     ⊎ ToldAlone m new r b (slice_index new.steps (256 * r + b)))
     → ((i : ℕ) → 256 * (new.count + 1) ≤ i → slice_index new.steps i ≡ slice_index old.steps i)
-    → ((r : ℕ) → old.count < r → r ≤ new.count → (fresh_at new r ≡ true) ↔ In new r 0)
+    → ((r : ℕ) → old.count < r → r ≤ new.count → (flag_at new r ≡ true) ↔ In new r 0)
     → ((r : ℕ) (answer : Bool) → ended new r ≡ Some answer → (ended old r ≡ Some answer)
     ⊎ ((r ≤ new.count) × AnswersEnd m false (In new r) answer))
     → (old.count < 1 → 1 ≤ new.count → Starts m false (In new 1))
-    → (old.count < 2 → 2 ≤ new.count → Starts m true (In new 2)) → IsAnchoredMemoryOf m new
+    → (old.count < 2 → 2 ≤ new.count → Starts m true (In new 2)) → IsAnchoredDfaOf m new
 moved m old new is shape k cells past flags ends inside first =
     let more = k.more in
     record {
@@ -413,7 +413,7 @@ moved m old new is shape k cells past flags ends inside first =
         | inl new_row ↦ flags r new_row le
         | inr old_row ↦
             let le' : r ≤ old.count = omega arith in
-            let flag = k.fresh r le' in
+            let flag = k.flags r le' in
             let so = is.accepts r ge le' in
             let sets = k.sets r le' 0 in
             (λ e. sets.0 (so.0 (sym flag ∙ e)), λ h. flag ∙ so.1 (sets.1 h))
@@ -435,7 +435,7 @@ moved m old new is shape k cells past flags ends inside first =
     }
 
 -- a step that is known leads to a row
-pub alone_known : (m : Nfa) (t : Remembered) (r b v : ℕ) → IsAnchoredMemoryOf m t → r ≤ t.count → b < 256
+pub alone_known : (m : Nfa) (t : Dfa) (r b v : ℕ) → IsAnchoredDfaOf m t → r ≤ t.count → b < 256
     → v ≡ get_or t.steps (256 * r + b) v → 256 ≤ v → v / 256 ≤ t.count
 alone_known m t r b v is known lt read big =
     let inside : 256 * r + b < length t.steps = omega (arith, is.shape.steps_size, known, lt) in
@@ -446,17 +446,17 @@ alone_known m t r b v is known lt read big =
       | inr (inr row) ↦ omega (arith, row.1, row.3)
     ]
 
--- a set was added to the table, with a flag that says whether state 0 is in it
-pub alone_grown : (m : Nfa) (old new : Remembered) (s : Members) (flag : Bool) → IsAnchoredMemoryOf m old
+-- a set was added to the cache, with a flag that says whether state 0 is in it
+pub alone_grown : (m : Nfa) (old new : Dfa) (s : Members) (flag : Bool) → IsAnchoredDfaOf m old
     → Grown (length m.states) old new s flag → (flag ≡ true) ↔ Has s 0
-    → (old.count < 2 → Starts m (eqb old.count 1) (Has s)) → IsAnchoredMemoryOf m new
+    → (old.count < 2 → Starts m (eqb old.count 1) (Has s)) → IsAnchoredDfaOf m new
 alone_grown m old new s flag is g so starts =
     let n = g.count in
     moved m old new is g.shape g.keeps (λ r b le lt. inl (g.steps (256 * r + b))) (λ i le. g.steps i)
     (λ r later le.
     let last : r ≡ new.count = omega arith in
     let here = g.here 0 in
-    let told = ap (fresh_at new) last ∙ g.fresh_here in (
+    let told = ap (flag_at new) last ∙ g.flag_here in (
       λ e. subst (λ v. In new v 0) (sym last) (here.0 (so.0 (sym told ∙ e))),
       λ h. told ∙ so.1 (here.1 (subst (λ v. In new v 0) last h)),
     ))
@@ -470,15 +470,15 @@ alone_grown m old new s flag is g so starts =
         (subst (λ v. Starts m (eqb v 1) (Has s)) at (starts less))
 
 -- a set was added, if there was room
-pub alone_added : (m : Nfa) (old new : Remembered) (s : Members) (flag r : Bool) → IsAnchoredMemoryOf m old
+pub alone_added : (m : Nfa) (old new : Dfa) (s : Members) (flag r : Bool) → IsAnchoredDfaOf m old
     → (IsTrue r → Grown (length m.states) old new s flag) → (r ≡ false → new ≡ old) → (flag ≡ true) ↔ Has s 0
-    → (old.count < 2 → Starts m (eqb old.count 1) (Has s)) → IsAnchoredMemoryOf m new
+    → (old.count < 2 → Starts m (eqb old.count 1) (Has s)) → IsAnchoredDfaOf m new
 alone_added m old new s flag true is grown_so _ so starts = alone_grown m old new s flag is (grown_so refl) so starts
-alone_added m old new s flag false is _ same so starts = subst (IsAnchoredMemoryOf m) (sym (same refl)) is
+alone_added m old new s flag false is _ same so starts = subst (IsAnchoredDfaOf m) (sym (same refl)) is
 
 -- where a byte leads was written
-pub alone_marked : (m : Nfa) (old new : Remembered) (r b v : ℕ) → IsAnchoredMemoryOf m old
-    → Marked old new (256 * r + b) v → r ≤ old.count → b < 256 → ToldAlone m old r b v → IsAnchoredMemoryOf m new
+pub alone_marked : (m : Nfa) (old new : Dfa) (r b v : ℕ) → IsAnchoredDfaOf m old
+    → Marked old new (256 * r + b) v → r ≤ old.count → b < 256 → ToldAlone m old r b v → IsAnchoredDfaOf m new
 alone_marked m old new r b v is w le lt told =
     let k = sets_keep old new w.sets in
     let n = w.sets.count in
@@ -505,8 +505,8 @@ alone_marked m old new r b v is w le lt told =
     (λ less some. absurd (omega arith))
 
 -- the answer at a line's end was written
-pub alone_marked_end : (m : Nfa) (old new : Remembered) (r : ℕ) (answer : Bool) → IsAnchoredMemoryOf m old
-    → MarkedEnd old new r answer → r ≤ old.count → AnswersEnd m false (In old r) answer → IsAnchoredMemoryOf m new
+pub alone_marked_end : (m : Nfa) (old new : Dfa) (r : ℕ) (answer : Bool) → IsAnchoredDfaOf m old
+    → MarkedEnd old new r answer → r ≤ old.count → AnswersEnd m false (In old r) answer → IsAnchoredDfaOf m new
 alone_marked_end m old new r answer is w le told =
     let k = sets_keep old new w.sets in
     let n = w.sets.count in
@@ -536,16 +536,16 @@ alone_marked_end m old new r answer is w le told =
     same_some : (a c : Bool) → Some a ≡ Some c → a ≡ c
     same_some a c e = cc
 
--- where the byte leads from row r of the table: to row k
-pub told_alone : (m : Nfa) (old mid : Remembered) (r b k v : ℕ) (s u : Members) → v ≡ 256 * k → 1 ≤ k → k ≤ mid.count
+-- where the byte leads from row r of the cache: to row k
+pub told_alone : (m : Nfa) (old mid : Dfa) (r b k v : ℕ) (s u : Members) → v ≡ 256 * k → 1 ≤ k → k ≤ mid.count
     → r ≤ old.count → Keeps old mid → Same (In old r) (Has s) → GoesAlone m.states b (Has s) (Has u)
     → Same (Has u) (In mid k) → ToldAlone m mid r b v
 told_alone m old mid r b k v s u e ge le le_r keeps from goes to =
     let back = same_on (Has s) (In old r) (In mid r) (same_back (In old r) (Has s) from) (keeps.sets r le_r) in
     inr (inr (k, e, ge, le, alone_same m.states b (Has s) (In mid r) (Has u) (In mid k) back to goes))
 
--- a new table remembers nothing
-pub blank_alone : (m : Nfa) (t : Remembered) → IsBlank t → IsAnchoredMemoryOf m t
+-- a new cache has nothing
+pub blank_alone : (m : Nfa) (t : Dfa) → IsBlank t → IsAnchoredDfaOf m t
 blank_alone m t b =
     let none = b.count in
     record {
@@ -562,8 +562,8 @@ blank_alone m t b =
     no_some a e = cc
 
 pub blank_anchored : {A : Type 0} (table : Option (Cache A)) (m : Nfa)
-    → IfSome table (λ t. IsBlank (remembered t)) → RemembersAnchored table m
-blank_anchored (Some t) m blank = blank_alone m (remembered t) blank
+    → IfSome table (λ t. IsBlank (dfa t)) → CachesAnchoredDfaOf table m
+blank_anchored (Some t) m blank = blank_alone m (dfa t) blank
 blank_anchored None m blank = tt
 
 -- whether state 0 is in a set, as its mark is read

@@ -1,4 +1,4 @@
--- The table of the sets that are remembered.
+-- The DFA cache: its rows, steps and flags.
 use Rattle.std.proofs.Common.{◌≡◌, ◌≢◌, ℕ, zero, suc, ◌+◌, ◌-◌, ◌*◌, ◌/◌, ◌<◌, ◌≤◌, ◌⊎◌, ◌↔◌, inl, inr, List}
 use Rattle.std.proofs.Common.{[], ◌∷◌, ◌++◌, take}
 use Rattle.std.proofs.Common.{length, get_or, set, replicate, Bool, true, false, true≢false, Option, Some, None, refl}
@@ -13,27 +13,27 @@ use Rattle.pg_match.specs.Closures.{AllBelow}
 use Rattle.pg_match.specs.StateSets.{Members, mark, listed, IsGood, Inserted}
 use Rattle.pg_match.specs.Steps.{Has, Goes, Starts, HitBefore, AnswersEnd, ReadsNone}
 use Rattle.pg_match.specs.Stands.{Stands, HasRun}
-use Rattle.pg_match.specs.Memories.{Remembered, cut, ended, fresh_at, In, Same, IsShape, Told, IsMemoryOf}
-use Rattle.pg_match.specs.Memories.{IsUnknown, IsHopeless, IsBlank, Keeps, Grown, SameSets, Marked, MarkedEnd}
-use Rattle.pg_match.specs.Memories.{HasRoom, Widened}
-use Rattle.pg_match.specs.Memories.{IsAtRow, StandsAt, Learned, Finishes, Settles}
-use Rattle.pg_match.specs.Views.{remembered, Remembers}
+use Rattle.pg_match.specs.Dfas.{Dfa, cut, ended, flag_at, In, Same, IsShape, Told, IsDfaOf}
+use Rattle.pg_match.specs.Dfas.{IsUnknown, IsHopeless, IsBlank, Keeps, Grown, SameSets, Marked, MarkedEnd}
+use Rattle.pg_match.specs.Dfas.{HasRoom, Widened}
+use Rattle.pg_match.specs.Dfas.{IsAtRow, StandsAt, Learned, Finishes, Settles}
+use Rattle.pg_match.specs.Views.{dfa, CachesDfaOf}
 use Rattle.pg_match.specs.declared.dfa_cache.Cache.{Cache}
 use Rattle.pg_match.specs.declared.dfa_search.Next.TheVariants.{Row, Lost}
 use Rattle.pg_match.proofs.StateSetLemmas.{listed_in}
 use Rattle.pg_match.proofs.StandsLemmas.{stands_next, run_before, run_at_end, no_run}
 
 -- the states of the set before place k are in
-pub record Loading (mem : Remembered) (r : ℕ) (old s : Members) (k : ℕ) : Type 0 where
+pub record Loading (table : Dfa) (r : ℕ) (old s : Members) (k : ℕ) : Type 0 where
   pub good : IsGood s
   pub size : length s.marks ≡ length old.marks
-  pub from : (q : ℕ) → Has s q → (j : ℕ) × (cut mem r ≤ j) × (j < k) × (slice_index mem.pool j ≡ q)
-  pub all : (j : ℕ) → cut mem r ≤ j → j < k → Has s (slice_index mem.pool j)
+  pub from : (q : ℕ) → Has s q → (j : ℕ) × (cut table r ≤ j) × (j < k) × (slice_index table.pool j ≡ q)
+  pub all : (j : ℕ) → cut table r ≤ j → j < k → Has s (slice_index table.pool j)
 
-pub loading_next : (mem : Remembered) (r : ℕ) (old s u : Members) (k x : ℕ) → Loading mem r old s k → cut mem r ≤ k
-    → x ≡ slice_index mem.pool k
-    → Inserted s u x 1 → Loading mem r old u (k + 1)
-loading_next mem r old s u k x a ge is ins = record {
+pub loading_next : (table : Dfa) (r : ℕ) (old s u : Members) (k x : ℕ) → Loading table r old s k → cut table r ≤ k
+    → x ≡ slice_index table.pool k
+    → Inserted s u x 1 → Loading table r old u (k + 1)
+loading_next table r old s u k x a ge is ins = record {
   good = ins.good;
   size = ins.size ∙ a.size;
   from = λ q h. elim (cases_lt 0 (mark s q)) [
@@ -41,8 +41,8 @@ loading_next mem r old s u k x a ge is ins = record {
     | inr none ↦ let g = ins.fresh q (omega arith) h in (k, ge, omega arith, sym is ∙ sym g.0)
   ];
   all = λ j le lt. elim (cases_eq j k) [
-    | inl same ↦ subst (λ v. Has u v) (is ∙ ap (λ v. slice_index mem.pool v) (sym same)) ins.here
-    | inr other ↦ let h = a.all j le (omega arith) in let e = ins.kept (slice_index mem.pool j) h in omega arith
+    | inl same ↦ subst (λ v. Has u v) (is ∙ ap (λ v. slice_index table.pool v) (sym same)) ins.here
+    | inr other ↦ let h = a.all j le (omega arith) in let e = ins.kept (slice_index table.pool j) h in omega arith
   ];
 }
 
@@ -57,37 +57,37 @@ ones_more old new x ins below q = elim (cases_lt 0 (mark old q)) [
 ]
 
 -- the first k states were copied
-pub record Copying (old new : Remembered) (s : Members) (start k : ℕ) : Type 0 where
+pub record Copying (old new : Dfa) (s : Members) (start k : ℕ) : Type 0 where
   pub size : length new.pool ≡ length old.pool
   pub before : (j : ℕ) → j < start → slice_index new.pool j ≡ slice_index old.pool j
   pub copied : (j : ℕ) → j < k → slice_index new.pool (start + j) ≡ listed s j
   pub steps : new.steps ≡ old.steps
   pub ends : new.ends ≡ old.ends
-  pub fresh : new.fresh ≡ old.fresh
+  pub flags : new.flags ≡ old.flags
   pub cuts : new.cuts ≡ old.cuts
   pub count : new.count ≡ old.count
 
--- what the table reads
-pub same_list : (mem : Remembered) (r start : ℕ) (s : Members) → IsGood s → start ≡ cut mem r
-    → start + s.len ≡ cut mem (r + 1)
-    → ((j : ℕ) → j < s.len → get_or mem.pool (start + j) 0 ≡ get_or s.order j 0) → Same (Has s) (In mem r)
-same_list mem r start s good from to eqs q = (
+-- what the cache reads
+pub same_list : (table : Dfa) (r start : ℕ) (s : Members) → IsGood s → start ≡ cut table r
+    → start + s.len ≡ cut table (r + 1)
+    → ((j : ℕ) → j < s.len → get_or table.pool (start + j) 0 ≡ get_or s.order j 0) → Same (Has s) (In table r)
+same_list table r start s good from to eqs q = (
   λ h. let w = good.found q h in (start + w.0, omega arith, omega (arith, w.1), eqs w.0 w.1 ∙ w.2),
   λ h.
       let j : ℕ = h.0 - start in
       let lt : j < s.len = omega (arith, h.1, h.2) in
       let e : start + j ≡ h.0 = omega (arith, h.1) in
-      let is : listed s j ≡ q = sym (eqs j lt) ∙ ap (λ v. get_or mem.pool v 0) e ∙ h.3 in
+      let is : listed s j ≡ q = sym (eqs j lt) ∙ ap (λ v. get_or table.pool v 0) e ∙ h.3 in
       subst (λ v. Has s v) is (good.is_in j lt),
 )
 
-pub grown : (n : ℕ) (old mid new : Remembered) (s : Members) (start : ℕ) (fresh : Bool) → IsShape n old → IsGood s
+pub grown : (n : ℕ) (old mid new : Dfa) (s : Members) (start : ℕ) (flag : Bool) → IsShape n old → IsGood s
     → n ≡ length s.marks → start ≡ cut old (old.count + 1)
     → HasRoom old s.len → Copying old mid s start s.len → new.steps ≡ mid.steps
     → new.ends ≡ mid.ends → new.pool ≡ mid.pool
     → new.cuts ≡ set mid.cuts (mid.count + 2) (start + s.len) → new.count ≡ mid.count + 1
-    → new.fresh ≡ set mid.fresh (mid.count + 1) fresh → Grown n old new s fresh
-grown n old mid new s start fresh shape good size from room copy steps ends pool cuts0 count fresh0 =
+    → new.flags ≡ set mid.flags (mid.count + 1) flag → Grown n old new s flag
+grown n old mid new s start flag shape good size from room copy steps ends pool cuts0 count flags0 =
     let cuts : new.cuts ≡ set mid.cuts (old.count + 2) (start + s.len) = cuts0
     ∙ ap (λ v. set mid.cuts (v + 2) (start + s.len)) copy.count in
     let a : new.count ≡ old.count + 1 = count ∙ ap (λ v. v + 1) copy.count in
@@ -98,10 +98,10 @@ grown n old mid new s start fresh shape good size from room copy steps ends pool
     let cut_old : (r : ℕ) → r ≤ old.count + 1 → cut new r ≡ cut old r =
     λ r le. ap (λ v. slice_index v r) cuts ∙ get_or-set_other mid.cuts (old.count + 2) r (start + s.len) 0 (omega arith)
     ∙ ap (λ v. slice_index v r) copy.cuts in
-    let freshes : new.fresh ≡ set mid.fresh (old.count + 1) fresh = fresh0
-    ∙ ap (λ v. set mid.fresh (v + 1) fresh) copy.count in
-    let z2 = shape.fresh_size in
-    let freshlen : length mid.fresh ≡ 257 = ap length copy.fresh ∙ z2 in
+    let flags : new.flags ≡ set mid.flags (old.count + 1) flag = flags0
+    ∙ ap (λ v. set mid.flags (v + 1) flag) copy.count in
+    let z2 = shape.flags_size in
+    let flags_len : length mid.flags ≡ 257 = ap length copy.flags ∙ z2 in
     let midlen : length mid.cuts ≡ 258 = ap length copy.cuts ∙ z1 in
     let cut_new : cut new (old.count + 2) ≡ start + s.len =
     ap (λ v. slice_index v (old.count + 2)) cuts
@@ -136,7 +136,7 @@ grown n old mid new s start fresh shape good size from room copy steps ends pool
         steps_size = let e = ap length (steps ∙ copy.steps) in omega (arith, a, e, room.steps);
         ends_size = ap length (ends ∙ copy.ends) ∙ shape.ends_size;
         pool_size = let e = ap length pool in let e2 = copy.size in let b = shape.pool_size in omega arith;
-        fresh_size = ap length freshes ∙ length-set mid.fresh (old.count + 1) fresh ∙ freshlen;
+        flags_size = ap length flags ∙ length-set mid.flags (old.count + 1) flag ∙ flags_len;
         none = cut_old 0 (omega arith) ∙ shape.none ∙ sym (cut_old 1 (omega arith));
         cuts_size = ap length cuts ∙ length-set mid.cuts (old.count + 2) (start + s.len) ∙ midlen;
         few = omega arith;
@@ -161,14 +161,14 @@ grown n old mid new s start fresh shape good size from room copy steps ends pool
       };
       keeps = record {
         sets = keep;
-        fresh = λ r le.
-            ap (λ v. get_or v r false) freshes ∙ get_or-set_other mid.fresh (old.count + 1) r fresh false (omega arith)
-            ∙ ap (λ v. get_or v r false) copy.fresh;
+        flags = λ r le.
+            ap (λ v. get_or v r false) flags ∙ get_or-set_other mid.flags (old.count + 1) r flag false (omega arith)
+            ∙ ap (λ v. get_or v r false) copy.flags;
         more = omega arith;
       };
-      fresh_here =
-          ap (fresh_at new) a ∙ ap (λ v. get_or v (old.count + 1) false) freshes
-          ∙ get_or-set_same mid.fresh (old.count + 1) fresh false (omega arith);
+      flag_here =
+          ap (flag_at new) a ∙ ap (λ v. get_or v (old.count + 1) false) flags
+          ∙ get_or-set_same mid.flags (old.count + 1) flag false (omega arith);
       steps = λ i. ap (λ v. slice_index v i) (steps ∙ copy.steps);
       ends = ends ∙ copy.ends;
       count = a;
@@ -245,7 +245,7 @@ stands_at m l from p S U same s = record {
 pub nothing_known : (v : ℕ) → v ≡ 0 → IsUnknown v
 nothing_known v zero_v = (omega arith, λ one. omega arith, λ two. omega arith)
 
-told_moves : (m : Nfa) (old new : Remembered) (r b v : ℕ) → Keeps old new → r ≤ old.count → Told m old r b v
+told_moves : (m : Nfa) (old new : Dfa) (r b v : ℕ) → Keeps old new → r ≤ old.count → Told m old r b v
     → Told m new r b v
 told_moves m old new r b v k le (inl unknown) = inl unknown
 told_moves m old new r b v k le (inr (inl hit)) = inr (inl (hit.0, ((k.sets r le 0).0 hit.1.0, hit.1.1)))
@@ -263,17 +263,17 @@ told_moves m old new r b v k le (inr (inr (inr go))) =
       omega (arith, go.3),
       λ h. go.4 ((from 0).1 h.0, h.1),
       goes_same m b (In old r) (In new r) (In old go.0) (In new go.0) from to go.5,
-      λ f q y h read. go.6 (sym (k.fresh go.0 go.3) ∙ f) q y ((from q).1 h) read,
+      λ f q y h read. go.6 (sym (k.flags go.0 go.3) ∙ f) q y ((from q).1 h) read,
     )))
 
--- the memory of a table that keeps the rows, where each cell is blank, or is an old one, or is told
-moved : (m : Nfa) (old new : Remembered) → IsMemoryOf m old → IsShape (length m.states) new → Keeps old new
+-- the DFA of a cache that keeps the rows, where each step is blank, or is an old one, or is told
+moved : (m : Nfa) (old new : Dfa) → IsDfaOf m old → IsShape (length m.states) new → Keeps old new
     → ((r b : ℕ) → r ≤ new.count → b < 256 → (slice_index new.steps (256 * r + b) ≡ slice_index old.steps (256 * r + b))
     ⊎ Told m new r b (slice_index new.steps (256 * r + b)))
     → ((i : ℕ) → 256 * (new.count + 1) ≤ i → slice_index new.steps i ≡ slice_index old.steps i)
     → ((r : ℕ) (answer : Bool) → ended new r ≡ Some answer → (ended old r ≡ Some answer)
     ⊎ ((r ≤ new.count) × AnswersEnd m false (In new r) answer))
-    → (old.count ≡ 0 → 1 ≤ new.count → Starts m true (In new 1)) → IsMemoryOf m new
+    → (old.count ≡ 0 → 1 ≤ new.count → Starts m true (In new 1)) → IsDfaOf m new
 moved m old new is shape k cells past ends first =
     let more = k.more in
     record {
@@ -300,11 +300,11 @@ moved m old new is shape k cells past ends first =
       ];
     }
 
--- a set was added to the table
-pub memory_grown : (m : Nfa) (old new : Remembered) (s : Members) (fresh : Bool) → IsMemoryOf m old
-    → Grown (length m.states) old new s fresh
-    → (old.count ≡ 0 → Starts m true (Has s)) → IsMemoryOf m new
-memory_grown m old new s fresh is g first =
+-- a set was added to the cache
+pub dfa_grown : (m : Nfa) (old new : Dfa) (s : Members) (flag : Bool) → IsDfaOf m old
+    → Grown (length m.states) old new s flag
+    → (old.count ≡ 0 → Starts m true (Has s)) → IsDfaOf m new
+dfa_grown m old new s flag is g first =
     let n = g.count in
     moved m old new is g.shape g.keeps (λ r b le lt. inl (g.steps (256 * r + b))) (λ i le. g.steps i)
     (λ r answer e. inl (sym (ap (λ v. get_or v r None) g.ends) ∙ e))
@@ -313,13 +313,13 @@ memory_grown m old new s fresh is g first =
     starts_same m true (Has s) (In new 1) (subst (λ v. Same (Has s) (In new v)) one g.here) (first none))
 
 -- a set was added, if there was room
-pub memory_added : (m : Nfa) (old new : Remembered) (s : Members) (fresh r : Bool) → IsMemoryOf m old
-    → (IsTrue r → Grown (length m.states) old new s fresh) → (r ≡ false → new ≡ old)
-    → (old.count ≡ 0 → Starts m true (Has s)) → IsMemoryOf m new
-memory_added m old new s fresh true is grown_so _ first = memory_grown m old new s fresh is (grown_so refl) first
-memory_added m old new s fresh false is _ same first = subst (IsMemoryOf m) (sym (same refl)) is
+pub dfa_added : (m : Nfa) (old new : Dfa) (s : Members) (flag r : Bool) → IsDfaOf m old
+    → (IsTrue r → Grown (length m.states) old new s flag) → (r ≡ false → new ≡ old)
+    → (old.count ≡ 0 → Starts m true (Has s)) → IsDfaOf m new
+dfa_added m old new s flag true is grown_so _ first = dfa_grown m old new s flag is (grown_so refl) first
+dfa_added m old new s flag false is _ same first = subst (IsDfaOf m) (sym (same refl)) is
 
-pub sets_keep : (old new : Remembered) → SameSets old new → Keeps old new
+pub sets_keep : (old new : Dfa) → SameSets old new → Keeps old new
 sets_keep old new w =
     let c : (r : ℕ) → cut new r ≡ cut old r = λ r. ap (λ u. slice_index u r) w.cuts in
     let p : (j : ℕ) → slice_index new.pool j ≡ slice_index old.pool j = λ j. ap (λ u. slice_index u j) w.pool in
@@ -331,11 +331,11 @@ sets_keep old new w =
             λ h. (h.0, omega (arith, h.1), omega (arith, h.2), p h.0 ∙ h.3),
             λ h. (h.0, omega (arith, h.1), omega (arith, h.2), sym (p h.0) ∙ h.3),
           );
-      fresh = λ r le. ap (λ u. get_or u r false) w.fresh;
+      flags = λ r le. ap (λ u. get_or u r false) w.flags;
       more = omega arith;
     }
 
-pub sets_shape : (n : ℕ) (old new : Remembered) → IsShape n old → SameSets old new → length new.steps ≡ length old.steps
+pub sets_shape : (n : ℕ) (old new : Dfa) → IsShape n old → SameSets old new → length new.steps ≡ length old.steps
     → length new.ends ≡ length old.ends
     → IsShape n new
 sets_shape n old new s w steps ends =
@@ -348,7 +348,7 @@ sets_shape n old new s w steps ends =
       steps_size = let b = s.steps_size in omega arith;
       ends_size = ends ∙ s.ends_size;
       pool_size = let b = s.pool_size in omega arith;
-      fresh_size = ap length w.fresh ∙ s.fresh_size;
+      flags_size = ap length w.flags ∙ s.flags_size;
       cuts_size = ap length w.cuts ∙ s.cuts_size;
       none = c 0 ∙ s.none ∙ sym (c 1);
       few = let f = s.few in omega arith;
@@ -358,19 +358,19 @@ sets_shape n old new s w steps ends =
       within = λ r q le h. let le' : r ≤ old.count = omega arith in s.within r q le' ((k.sets r le' q).1 h);
     }
 
-pub mark_keeps : (old new : Remembered) (i v : ℕ) → Marked old new i v → Keeps old new
+pub mark_keeps : (old new : Dfa) (i v : ℕ) → Marked old new i v → Keeps old new
 mark_keeps old new i v w = sets_keep old new w.sets
 
-pub keeps_on : (old mid new : Remembered) → Keeps old mid → Keeps mid new → Keeps old new
+pub keeps_on : (old mid new : Dfa) → Keeps old mid → Keeps mid new → Keeps old new
 keeps_on old mid new k n =
     let more = k.more in
     record {
       sets = λ r le. same_on (In old r) (In mid r) (In new r) (k.sets r le) (n.sets r (omega arith));
-      fresh = λ r le. n.fresh r (omega arith) ∙ k.fresh r le;
+      flags = λ r le. n.flags r (omega arith) ∙ k.flags r le;
       more = omega (arith, more, n.more);
     }
 
-module _ (old new : Remembered) (w : Widened old new) where
+module _ (old new : Dfa) (w : Widened old new) where
   same_cut : (r : ℕ) → cut new r ≡ cut old r
   same_cut r = ap (λ u. slice_index u r) w.cuts
 
@@ -387,7 +387,7 @@ module _ (old new : Remembered) (w : Widened old new) where
       let n = w.count in
       record {
         sets = λ r le. widened_sets r;
-        fresh = λ r le. ap (λ u. get_or u r false) w.fresh;
+        flags = λ r le. ap (λ u. get_or u r false) w.flags;
         more = omega arith;
       }
 
@@ -400,7 +400,7 @@ module _ (old new : Remembered) (w : Widened old new) where
         steps_size = let b = s.steps_size in let m = w.more_steps in omega arith;
         ends_size = ap length w.ends ∙ s.ends_size;
         pool_size = w.few;
-        fresh_size = ap length w.fresh ∙ s.fresh_size;
+        flags_size = ap length w.flags ∙ s.flags_size;
         cuts_size = ap length w.cuts ∙ s.cuts_size;
         none = same_cut 0 ∙ s.none ∙ sym (same_cut 1);
         few = let f = s.few in omega arith;
@@ -412,23 +412,23 @@ module _ (old new : Remembered) (w : Widened old new) where
       }
 
 -- a row in more memory
-pub grown_widened : (n : ℕ) (old wide new : Remembered) (s : Members) (fresh : Bool) → Widened old wide
-    → Grown n wide new s fresh → Grown n old new s fresh
-grown_widened n old wide new s fresh w g = record {
+pub grown_widened : (n : ℕ) (old wide new : Dfa) (s : Members) (flag : Bool) → Widened old wide
+    → Grown n wide new s flag → Grown n old new s flag
+grown_widened n old wide new s flag w g = record {
   shape = g.shape;
   keeps = keeps_on old wide new (widened_keeps old wide w) g.keeps;
   steps = λ i. g.steps i ∙ w.steps i;
   ends = g.ends ∙ w.ends;
   count = g.count ∙ ap (λ v. v + 1) w.count;
   here = g.here;
-  fresh_here = g.fresh_here;
+  flag_here = g.flag_here;
 }
 
 -- where a byte leads was written
-pub memory_marked : (m : Nfa) (old new : Remembered) (r b v : ℕ) → IsMemoryOf m old → Marked old new (256 * r + b) v
+pub dfa_marked : (m : Nfa) (old new : Dfa) (r b v : ℕ) → IsDfaOf m old → Marked old new (256 * r + b) v
     → r ≤ old.count → b < 256
-    → Told m old r b v → IsMemoryOf m new
-memory_marked m old new r b v is w le lt told =
+    → Told m old r b v → IsDfaOf m new
+dfa_marked m old new r b v is w le lt told =
     let k = sets_keep old new w.sets in
     let n = w.sets.count in
     let few = is.shape.few in
@@ -453,10 +453,10 @@ memory_marked m old new r b v is w le lt told =
     (λ none some. absurd (omega arith))
 
 -- the answer at a line's end was written
-pub memory_marked_end : (m : Nfa) (old new : Remembered) (r : ℕ) (answer : Bool) → IsMemoryOf m old
+pub dfa_marked_end : (m : Nfa) (old new : Dfa) (r : ℕ) (answer : Bool) → IsDfaOf m old
     → MarkedEnd old new r answer → r ≤ old.count
-    → AnswersEnd m false (In old r) answer → IsMemoryOf m new
-memory_marked_end m old new r answer is w le told =
+    → AnswersEnd m false (In old r) answer → IsDfaOf m new
+dfa_marked_end m old new r answer is w le told =
     let k = sets_keep old new w.sets in
     let n = w.sets.count in
     let few = is.shape.few in
@@ -489,100 +489,102 @@ memory_marked_end m old new r answer is w le told =
 pub row_of : (state r : ℕ) → state ≡ 256 * r → state / 256 ≡ r
 row_of state r e = omega arith
 
-pub at_row : (t : Remembered) (state r : ℕ) → state ≡ 256 * r → r ≤ t.count → IsAtRow t state
+pub at_row : (t : Dfa) (state r : ℕ) → state ≡ 256 * r → r ≤ t.count → IsAtRow t state
 at_row t state r e le =
     let d = row_of state r e in
     record { row = omega arith; known = omega arith }
 
-pub in_table : (m : Nfa) (mem : Remembered) (state b : ℕ) → IsMemoryOf m mem → IsAtRow mem state → b < 256
-    → state + b < length mem.steps
-in_table m mem state b is s lt = omega (arith, is.shape.steps_size, is.shape.few, s.row, s.known)
+pub in_table : (m : Nfa) (table : Dfa) (state b : ℕ) → IsDfaOf m table → IsAtRow table state → b < 256
+    → state + b < length table.steps
+in_table m table state b is s lt = omega (arith, is.shape.steps_size, is.shape.few, s.row, s.known)
 
 -- what is told of the cell of a walk's state and a byte
-told_at : (m : Nfa) (mem : Remembered) (state v b : ℕ) → IsMemoryOf m mem → IsAtRow mem state → b < 256
-    → v ≡ slice_index mem.steps (state + b) → Told m mem (state / 256) b v
-told_at m mem state v b is s lt read =
+told_at : (m : Nfa) (table : Dfa) (state v b : ℕ) → IsDfaOf m table → IsAtRow table state → b < 256
+    → v ≡ slice_index table.steps (state + b) → Told m table (state / 256) b v
+told_at m table state v b is s lt read =
     let cell : state + b ≡ 256 * (state / 256) + b = ap (λ u. u + b) s.row in
-    let here : v ≡ slice_index mem.steps (256 * (state / 256) + b) = read ∙ ap (slice_index mem.steps) cell in
-    subst (Told m mem (state / 256) b) (sym here) (is.told (state / 256) b s.known lt)
+    let here : v ≡ slice_index table.steps (256 * (state / 256) + b) = read ∙ ap (slice_index table.steps) cell in
+    subst (Told m table (state / 256) b) (sym here) (is.told (state / 256) b s.known lt)
 
 -- one step of the walk
-pub row_next : (m : Nfa) (mem : Remembered) (state v b : ℕ) → IsMemoryOf m mem → IsAtRow mem state → b < 256
-    → v ≡ slice_index mem.steps (state + b) → 256 ≤ v
-    → IsAtRow mem v × (HitBefore m b (In mem (state / 256)) → ⊥) × Goes m b (In mem (state / 256)) (In mem (v / 256))
-    × (fresh_at mem (v / 256) ≡ true → ReadsNone m b (In mem (state / 256)))
-row_next m mem state v b is s lt read big =
-    elim (told_at m mem state v b is s lt read) [
+pub row_next : (m : Nfa) (table : Dfa) (state v b : ℕ) → IsDfaOf m table → IsAtRow table state → b < 256
+    → v ≡ slice_index table.steps (state + b) → 256 ≤ v
+    → IsAtRow table v × (HitBefore m b (In table (state / 256)) → ⊥)
+    × Goes m b (In table (state / 256)) (In table (v / 256))
+    × (flag_at table (v / 256) ≡ true → ReadsNone m b (In table (state / 256)))
+row_next m table state v b is s lt read big =
+    elim (told_at m table state v b is s lt read) [
       | inl unknown ↦ absurd (omega (arith, unknown.0))
       | inr rest ↦ elim rest [
         | inl hit ↦ absurd (omega (arith, hit.0))
         | inr more ↦ elim more [
           | inl dead ↦ absurd (omega (arith, dead.0))
           | inr go ↦ (
-            at_row mem v go.0 go.1 go.3,
+            at_row table v go.0 go.1 go.3,
             go.4,
-            subst (λ k. Goes m b (In mem (state / 256)) (In mem k)) (sym (row_of v go.0 go.1)) go.5,
-            λ f. go.6 (subst (λ k. fresh_at mem k ≡ true) (row_of v go.0 go.1) f),
+            subst (λ k. Goes m b (In table (state / 256)) (In table k)) (sym (row_of v go.0 go.1)) go.5,
+            λ f. go.6 (subst (λ k. flag_at table k ≡ true) (row_of v go.0 go.1) f),
           )
         ]
       ]
     ]
 
--- a remembered step, at a place of a line
-pub stands_step : (m : Nfa) (mem : Remembered) (l : List ℕ) (from p u state v b : ℕ) → u ≡ p + 1 → IsRunnable m
-    → IsMemoryOf m mem → IsAtRow mem state → b < 256
-    → slice_get l p ≡ Some b → p < length l → from ≤ p + 1 → v ≡ slice_index mem.steps (state + b) → 256 ≤ v
-    → StandsAt m mem l from p state → StandsAt m mem l from u v
-stands_step m mem l from p u state v b e is_m is s lt byte more later read big at =
-    let n = row_next m mem state v b is s lt read big in
-    subst (λ w. StandsAt m mem l from w v) (sym e)
-    (stands_next m l from p b (In mem (state / 256)) (In mem (v / 256)) byte more at n.2 later is_m n.1)
+-- a step in the cache, at a place of a line
+pub stands_step : (m : Nfa) (table : Dfa) (l : List ℕ) (from p u state v b : ℕ) → u ≡ p + 1 → IsRunnable m
+    → IsDfaOf m table → IsAtRow table state → b < 256
+    → slice_get l p ≡ Some b → p < length l → from ≤ p + 1 → v ≡ slice_index table.steps (state + b) → 256 ≤ v
+    → StandsAt m table l from p state → StandsAt m table l from u v
+stands_step m table l from p u state v b e is_m is s lt byte more later read big at =
+    let n = row_next m table state v b is s lt read big in
+    subst (λ w. StandsAt m table l from w v) (sym e)
+    (stands_next m l from p b (In table (state / 256)) (In table (v / 256)) byte more at n.2 later is_m n.1)
 
 -- in the middle of a walk
-pub record Walking (m : Nfa) (mem : Remembered) (l : List ℕ) (from state p v : ℕ) : Type 0 where
+pub record Walking (m : Nfa) (table : Dfa) (l : List ℕ) (from state p v : ℕ) : Type 0 where
   pub within : p < length l
   pub onward : from ≤ p
-  pub row : IsAtRow mem v
-  pub stands : (start : ℕ) → start ≤ from + 1 → StandsAt m mem l start from state → StandsAt m mem l start p v
+  pub row : IsAtRow table v
+  pub stands : (start : ℕ) → start ≤ from + 1 → StandsAt m table l start from state → StandsAt m table l start p v
 
-pub walking_next : (m : Nfa) (mem : Remembered) (l : List ℕ) (from state p u at v b : ℕ) → u ≡ p + 1 → IsRunnable m
-    → IsMemoryOf m mem → b < 256
-    → slice_get l p ≡ Some b → u < length l → v ≡ slice_index mem.steps (at + b) → 256 ≤ v
-    → Walking m mem l from state p at → Walking m mem l from state u v
-walking_next m mem l from state p u at v b e is_m is lt byte more read big w =
+pub walking_next : (m : Nfa) (table : Dfa) (l : List ℕ) (from state p u at v b : ℕ) → u ≡ p + 1 → IsRunnable m
+    → IsDfaOf m table → b < 256
+    → slice_get l p ≡ Some b → u < length l → v ≡ slice_index table.steps (at + b) → 256 ≤ v
+    → Walking m table l from state p at → Walking m table l from state u v
+walking_next m table l from state p u at v b e is_m is lt byte more read big w =
     let on = w.onward in
     record {
       within = more;
       onward = omega arith;
-      row = (row_next m mem at v b is w.row lt read big).0;
+      row = (row_next m table at v b is w.row lt read big).0;
       stands = λ start le s.
-          stands_step m mem l start p u at v b e is_m is w.row lt byte (omega arith) (omega arith) read big
+          stands_step m table l start p u at v b e is_m is w.row lt byte (omega arith) (omega arith) read big
           (w.stands start le s);
     }
 
 -- the same, as the table and the line are read
-pub walking_read : (m : Nfa) (mem : Remembered) (l : List ℕ) (from state p u at v : ℕ) → u ≡ p + 1 → IsRunnable m
-    → IsMemoryOf m mem → get_or l p 0 < 256 → u < length l → v ≡ get_or mem.steps (at + get_or l p 0) v → 256 ≤ v
-    → Walking m mem l from state p at → Walking m mem l from state u v
-walking_read m mem l from state p u at v e is_m is lt more read big w =
+pub walking_read : (m : Nfa) (table : Dfa) (l : List ℕ) (from state p u at v : ℕ) → u ≡ p + 1 → IsRunnable m
+    → IsDfaOf m table → get_or l p 0 < 256 → u < length l → v ≡ get_or table.steps (at + get_or l p 0) v → 256 ≤ v
+    → Walking m table l from state p at → Walking m table l from state u v
+walking_read m table l from state p u at v e is_m is lt more read big w =
     let b = get_or l p 0 in
-    let inside = in_table m mem at b is w.row lt in
-    walking_next m mem l from state p u at v b e is_m is lt (slice_get-get_or l p 0 w.within) more
-    (get_or_read mem.steps _ v inside read 0) big w
+    let inside = in_table m table at b is w.row lt in
+    walking_next m table l from state p u at v b e is_m is lt (slice_get-get_or l p 0 w.within) more
+    (get_or_read table.steps _ v inside read 0) big w
 
 -- four steps of it
-pub walking_four : (m : Nfa) (mem : Remembered) (l : List ℕ) (from state p at a b c d : ℕ) → IsRunnable m
-    → IsMemoryOf m mem → ((i : ℕ) → get_or l i 0 < 256) → p + 4 < length l
-    → a ≡ get_or mem.steps (at + get_or l p 0) a → 256 ≤ a → b ≡ get_or mem.steps (a + get_or l (p + 1) 0) b → 256 ≤ b
-    → c ≡ get_or mem.steps (b + get_or l (p + 2) 0) c → 256 ≤ c → d ≡ get_or mem.steps (c + get_or l (p + 3) 0) d
-    → 256 ≤ d → Walking m mem l from state p at → Walking m mem l from state (p + 4) d
-walking_four m mem l from state p at a b c d is_m is small more ra ba rb bb rc bc rd bd w =
-    let w1 = walking_read m mem l from state p (p + 1) at a (omega arith) is_m is (small p) (omega arith) ra ba w in
-    let w2 = walking_read m mem l from state (p + 1) (p + 2) a b (omega arith) is_m is (small (p + 1)) (omega arith) rb
-    bb w1 in
-    let w3 = walking_read m mem l from state (p + 2) (p + 3) b c (omega arith) is_m is (small (p + 2)) (omega arith) rc
-    bc w2 in
-    walking_read m mem l from state (p + 3) (p + 4) c d (omega arith) is_m is (small (p + 3)) (omega arith) rd bd w3
+pub walking_four : (m : Nfa) (table : Dfa) (l : List ℕ) (from state p at a b c d : ℕ) → IsRunnable m
+    → IsDfaOf m table → ((i : ℕ) → get_or l i 0 < 256) → p + 4 < length l
+    → a ≡ get_or table.steps (at + get_or l p 0) a → 256 ≤ a
+    → b ≡ get_or table.steps (a + get_or l (p + 1) 0) b → 256 ≤ b
+    → c ≡ get_or table.steps (b + get_or l (p + 2) 0) c → 256 ≤ c → d ≡ get_or table.steps (c + get_or l (p + 3) 0) d
+    → 256 ≤ d → Walking m table l from state p at → Walking m table l from state (p + 4) d
+walking_four m table l from state p at a b c d is_m is small more ra ba rb bb rc bc rd bd w =
+    let w1 = walking_read m table l from state p (p + 1) at a (omega arith) is_m is (small p) (omega arith) ra ba w in
+    let w2 = walking_read m table l from state (p + 1) (p + 2) a b (omega arith) is_m is (small (p + 1)) (omega arith)
+    rb bb w1 in
+    let w3 = walking_read m table l from state (p + 2) (p + 3) b c (omega arith) is_m is (small (p + 2)) (omega arith)
+    rc bc w2 in
+    walking_read m table l from state (p + 3) (p + 4) c d (omega arith) is_m is (small (p + 3)) (omega arith) rd bd w3
 
 abbrev pub none : Option Bool
 none = None
@@ -595,22 +597,22 @@ nones xs n e i = ap (λ v. get_or v i None) e ∙ at n i
     at (suc n) zero = refl
     at (suc n) (suc i) = at n i
 
-pub blank_table : (mem : Remembered) → 256 ≤ length mem.steps → length mem.ends ≡ 257
-    → length mem.pool ≤ 1048576
-    → length mem.cuts ≡ 258 → length mem.fresh ≡ 257 → mem.count ≡ 0 → ((i : ℕ) → slice_index mem.steps i ≡ 0)
-    → ((r : ℕ) → ended mem r ≡ None) → cut mem 0 ≡ cut mem 1 → cut mem 1 ≤ length mem.pool → IsBlank mem
-blank_table mem a b c d f none s l same fits =
-    let flat : (r : ℕ) → r ≤ 1 → cut mem r ≡ cut mem 1 = λ r le. elim (cases_eq r 1) [
-      | inl one ↦ ap (cut mem) one
-      | inr other ↦ let z : r ≡ 0 = omega arith in ap (cut mem) z ∙ same
+pub blank_table : (table : Dfa) → 256 ≤ length table.steps → length table.ends ≡ 257
+    → length table.pool ≤ 1048576
+    → length table.cuts ≡ 258 → length table.flags ≡ 257 → table.count ≡ 0 → ((i : ℕ) → slice_index table.steps i ≡ 0)
+    → ((r : ℕ) → ended table r ≡ None) → cut table 0 ≡ cut table 1 → cut table 1 ≤ length table.pool → IsBlank table
+blank_table table a b c d f none s l same fits =
+    let flat : (r : ℕ) → r ≤ 1 → cut table r ≡ cut table 1 = λ r le. elim (cases_eq r 1) [
+      | inl one ↦ ap (cut table) one
+      | inr other ↦ let z : r ≡ 0 = omega arith in ap (cut table) z ∙ same
     ] in
-    let last : cut mem (mem.count + 1) ≡ cut mem 1 = ap (λ v. cut mem (v + 1)) none in
+    let last : cut table (table.count + 1) ≡ cut table 1 = ap (λ v. cut table (v + 1)) none in
     record {
       shape = λ n. record {
         steps_size = omega (arith, none, a);
         ends_size = b;
         pool_size = c;
-        fresh_size = f;
+        flags_size = f;
         cuts_size = d;
         none = same;
         few = omega arith;
@@ -625,24 +627,24 @@ blank_table mem a b c d f none s l same fits =
       count = none;
     }
 
--- the steps and the answers of a table were cleared, and its sets taken out
-pub blank_again : (n i j : ℕ) (old new : Remembered) → IsShape n old → new.steps ≡ replicate i 0
+-- the steps and the answers of a cache were cleared, and its sets taken out
+pub blank_again : (n i j : ℕ) (old new : Dfa) → IsShape n old → new.steps ≡ replicate i 0
     → new.ends ≡ replicate j none
-    → 256 ≤ length new.steps → length new.ends ≡ 257 → new.fresh ≡ old.fresh → new.pool ≡ old.pool
+    → 256 ≤ length new.steps → length new.ends ≡ 257 → new.flags ≡ old.flags → new.pool ≡ old.pool
     → new.cuts ≡ old.cuts
     → new.count ≡ 0 → IsBlank new
-blank_again n i j old new s steps ends a b fresh pool cuts count =
+blank_again n i j old new s steps ends a b flags pool cuts count =
     let upto = s.upto 1 (omega arith) in
     let room = s.room in
     let size = ap length pool in
     let zeroth : cut new 0 ≡ cut old 0 = ap (λ v. slice_index v 0) cuts in
     let first : cut new 1 ≡ cut old 1 = ap (λ v. slice_index v 1) cuts in
     blank_table new a b (omega (arith, s.pool_size)) (ap length cuts ∙ s.cuts_size)
-    (ap length fresh ∙ s.fresh_size) count
+    (ap length flags ∙ s.flags_size) count
     (zeros new.steps i steps) (nones new.ends j ends) (zeroth ∙ s.none ∙ sym first) (omega arith)
 
-pub blank_memory : (m : Nfa) (mem : Remembered) → IsBlank mem → IsMemoryOf m mem
-blank_memory m mem b =
+pub blank_dfa : (m : Nfa) (table : Dfa) → IsBlank table → IsDfaOf m table
+blank_dfa m table b =
     let none = b.count in
     record {
       shape = b.shape (length m.states);
@@ -661,12 +663,12 @@ hit_same m b S U s h = ((s 0).0 h.0, h.1)
 pub hit_there : (m : Nfa) (b : ℕ) (S U : ℕ → Type 0) → Same S U → HitBefore m b U → HitBefore m b S
 hit_there m b S U s h = ((s 0).1 h.0, h.1)
 
--- where the byte leads from row r of the table: to row k
-pub told_row : (m : Nfa) (old mid : Remembered) (r b k v : ℕ) (s u : Members) → v ≡ 256 * k → 1 ≤ k → k ≤ mid.count
+-- where the byte leads from row r of the cache: to row k
+pub told_row : (m : Nfa) (old mid : Dfa) (r b k v : ℕ) (s u : Members) → v ≡ 256 * k → 1 ≤ k → k ≤ mid.count
     → r ≤ old.count
     → Keeps old mid → Same (In old r) (Has s) → (HitBefore m b (Has s) → ⊥) → Goes m b (Has s) (Has u)
     → Same (Has u) (In mid k)
-    → (fresh_at mid k ≡ true → ReadsNone m b (Has s)) → Told m mid r b v
+    → (flag_at mid k ≡ true → ReadsNone m b (Has s)) → Told m mid r b v
 told_row m old mid r b k v s u e ge le le_r keeps from missed goes to fresh =
     let back = same_on (Has s) (In old r) (In mid r) (same_back (In old r) (Has s) from) (keeps.sets r le_r) in
     inr (inr (inr (
@@ -679,7 +681,7 @@ told_row m old mid r b k v s u e ge le le_r keeps from missed goes to fresh =
       λ f q y h read. fresh f q y ((back q).1 h) read,
     )))
 
-pub learned_row : (m : Nfa) (old mid new : Remembered) (r b k v : ℕ) (s u : Members) → v ≡ 256 * k → k ≤ mid.count
+pub learned_row : (m : Nfa) (old mid new : Dfa) (r b k v : ℕ) (s u : Members) → v ≡ 256 * k → k ≤ mid.count
     → Keeps mid new → Same (In old r) (Has s) → (HitBefore m b (Has s) → ⊥) → Goes m b (Has s) (Has u)
     → Same (Has u) (In mid k)
     → Learned m old new r b u (Row v)
@@ -693,7 +695,7 @@ learned_row m old mid new r b k v s u e le keeps from missed goes to =
       there_too,
     )
 
-pub learned_lost : (m : Nfa) (old new : Remembered) (r b : ℕ) (s u : Members) → Same (In old r) (Has s)
+pub learned_lost : (m : Nfa) (old new : Dfa) (r b : ℕ) (s u : Members) → Same (In old r) (Has s)
     → (HitBefore m b (Has s) → ⊥)
     → Goes m b (Has s) (Has u) → Learned m old new r b u Lost
 learned_lost m old new r b s u from missed goes = (
@@ -701,11 +703,11 @@ learned_lost m old new r b s u from missed goes = (
   goes_same m b (Has s) (In old r) (Has u) (Has u) (same_back (In old r) (Has s) from) (same_self (Has u)) goes,
 )
 
--- what a table says of a row and a byte where a match ends before it
-pub told_hit : (m : Nfa) (mem : Remembered) (state v b : ℕ) → IsMemoryOf m mem → IsAtRow mem state → b < 256
-    → v ≡ slice_index mem.steps (state + b) → v ≡ 1 → HitBefore m b (In mem (state / 256))
-told_hit m mem state v b is s lt read one =
-    elim (told_at m mem state v b is s lt read) [
+-- what a cache says of a row and a byte where a match ends before it
+pub told_hit : (m : Nfa) (table : Dfa) (state v b : ℕ) → IsDfaOf m table → IsAtRow table state → b < 256
+    → v ≡ slice_index table.steps (state + b) → v ≡ 1 → HitBefore m b (In table (state / 256))
+told_hit m table state v b is s lt read one =
+    elim (told_at m table state v b is s lt read) [
       | inl unknown ↦ absurd (unknown.1 one)
       | inr rest ↦ elim rest [
         | inl hit ↦ hit.1
@@ -715,10 +717,10 @@ told_hit m mem state v b is s lt read one =
     ]
 
 -- the same where it says that none ends before it or behind it
-pub told_dead : (m : Nfa) (mem : Remembered) (state v b : ℕ) → IsMemoryOf m mem → IsAtRow mem state → b < 256
-    → v ≡ slice_index mem.steps (state + b) → v ≡ 2 → IsHopeless m b (In mem (state / 256))
-told_dead m mem state v b is s lt read two =
-    elim (told_at m mem state v b is s lt read) [
+pub told_dead : (m : Nfa) (table : Dfa) (state v b : ℕ) → IsDfaOf m table → IsAtRow table state → b < 256
+    → v ≡ slice_index table.steps (state + b) → v ≡ 2 → IsHopeless m b (In table (state / 256))
+told_dead m table state v b is s lt read two =
+    elim (told_at m table state v b is s lt read) [
       | inl unknown ↦ absurd (unknown.2 two)
       | inr rest ↦ elim rest [
         | inl hit ↦ absurd (omega (arith, hit.0, two))
@@ -761,16 +763,16 @@ finishes_end m b S U answer is missed goes at_end = λ l from p s byte end le.
     ended_so m l from U answer false is last (λ f. absurd (true≢false (sym f))) (λ z. absurd (omega arith)) at_end
 
 -- what a row's answer at a line's end says of the row before it
-pub finishes_if : (m : Nfa) (mem : Remembered) (b : ℕ) (S : ℕ → Type 0) (k : ℕ) (o : Option Bool) → IsRunnable m
-    → IsMemoryOf m mem
-    → (HitBefore m b S → ⊥) → Goes m b S (In mem k) × (fresh_at mem k ≡ true → ReadsNone m b S) → o ≡ ended mem k
+pub finishes_if : (m : Nfa) (table : Dfa) (b : ℕ) (S : ℕ → Type 0) (k : ℕ) (o : Option Bool) → IsRunnable m
+    → IsDfaOf m table
+    → (HitBefore m b S → ⊥) → Goes m b S (In table k) × (flag_at table k ≡ true → ReadsNone m b S) → o ≡ ended table k
     → IfSome o (Finishes m b S)
-finishes_if m mem b S k None is mem_of missed goes e = tt
-finishes_if m mem b S k (Some answer) is mem_of missed goes e =
-    finishes_end m b S (In mem k) answer is missed goes.0 (mem_of.told_end k answer (sym e)).1
+finishes_if m table b S k None is dfa_of missed goes e = tt
+finishes_if m table b S k (Some answer) is dfa_of missed goes e =
+    finishes_end m b S (In table k) answer is missed goes.0 (dfa_of.told_end k answer (sym e)).1
 
--- what a new table remembers, or none
-pub new_remembers : {A E : Type 0} (r : Result (Cache A) E) (m : Nfa)
-    → IfOk r (λ t. IsBlank (remembered t)) → Remembers (result_ok r) m
-new_remembers (Ok t) m blank = blank_memory m (remembered t) blank
-new_remembers (Err e) m blank = tt
+-- what a new cache has, or none
+pub new_caches : {A E : Type 0} (r : Result (Cache A) E) (m : Nfa)
+    → IfOk r (λ t. IsBlank (dfa t)) → CachesDfaOf (result_ok r) m
+new_caches (Ok t) m blank = blank_dfa m (dfa t) blank
+new_caches (Err e) m blank = tt

@@ -1,11 +1,11 @@
--- How a walk leaves the table and comes back to it.
+-- How a walk leaves the DFA cache and comes back to it.
 use Rattle.std.proofs.Common.{◌≡◌, ◌≢◌, ℕ, ◌-◌, ◌<◌, ◌≤◌, ◌↔◌, inl, inr, List, length, sym, subst, refl, arith}
 use Rattle.std.specs.Prelude.{slice_get}
 use Rattle.std.proofs.lemmas.Bool.{cases_lt}
 use Rattle.pg_match.specs.Automata.{Nfa, Edge, Runs}
 use Rattle.pg_pattern.specs.Bounds.{MayBegin}
 use Rattle.pg_match.specs.Closures.{Leads, AreSeeds}
-use Rattle.pg_match.specs.Memories.{Remembered, IsMemoryOf, IsCursor, Crosses}
+use Rattle.pg_match.specs.Dfas.{Dfa, IsDfaOf, IsCursor, Crosses}
 use Rattle.pg_match.specs.Stands.{HasRun, NoneBefore}
 use Rattle.pg_match.specs.Starts.{StandsUnseeded}
 use Rattle.pg_match.specs.declared.dfa_cursor.Crossing.{Crossing}
@@ -86,16 +86,16 @@ module _ (m : Nfa) (seeds : List ℕ) (are : AreSeeds m.states m.start seeds) (l
   }
 
 -- row 0 stands right before a place, for what begins there or behind it
-pub cursor_back : (m : Nfa) (mem : Remembered) (l : List ℕ) (p : ℕ) → IsMemoryOf m mem → p ≢ 0 → p ≤ length l
-    → IsCursor m mem l (record { from = p; place = p - 1; state = 0 })
-cursor_back m mem l p is some within =
-    let s = scan_later m mem l p (p - 1) is some within refl in
+pub cursor_back : (m : Nfa) (table : Dfa) (l : List ℕ) (p : ℕ) → IsDfaOf m table → p ≢ 0 → p ≤ length l
+    → IsCursor m table l (record { from = p; place = p - 1; state = 0 })
+cursor_back m table l p is some within =
+    let s = scan_later m table l p (p - 1) is some within refl in
     record { within = s.within; near = s.near; row = s.row; stands = s.stands }
 
 -- the same found from an earlier place on, where no hit begins between the two
-pub crosses_from : (m : Nfa) (mem : Remembered) (l : List ℕ) (c d : Cursor) (r : Crossing) → d.place ≡ c.place
+pub crosses_from : (m : Nfa) (table : Dfa) (l : List ℕ) (c d : Cursor) (r : Crossing) → d.place ≡ c.place
     → HasRun m l c.from ↔ HasRun m l d.from
-    → Crosses m mem l d r → Crosses m mem l c r
-crosses_from m mem l c d (Found answer) e same h = (λ t. same.1 (h.0 t), λ run. h.1 (same.0 run))
-crosses_from m mem l c d (At next) e same h =
+    → Crosses m table l d r → Crosses m table l c r
+crosses_from m table l c d (Found answer) e same h = (λ t. same.1 (h.0 t), λ run. h.1 (same.0 run))
+crosses_from m table l c d (At next) e same h =
     (omega (arith, h.0, e), h.1, (λ run. h.2.0 (same.0 run), λ run. same.1 (h.2.1 run)))

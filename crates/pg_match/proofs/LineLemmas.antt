@@ -1,4 +1,4 @@
--- The first line of some bytes, walked by remembered sets before its end is known.
+-- The first line of some bytes, walked by the DFA cache before its end is known.
 use Rattle.std.proofs.Common.{◌≡◌, ◌∙◌, ℕ, ◌+◌, ◌/◌, ◌<◌, ◌≤◌, ◌⊎◌, ◌-◌, inl, inr, List, [], length, length-drop}
 use Rattle.std.proofs.Common.{take, drop, Bool, Option, Some, None, IsTrue, ◌↔◌, refl, sym, ap, subst, arith, get_or}
 use Rattle.std.specs.Prelude.{slice_get, slice_index, IfSome}
@@ -12,7 +12,7 @@ use Rattle.pg_pattern.specs.Patterns.{Pattern}
 use Rattle.pg_match.specs.Lines.{IsFirstText, TellsLine, StandsInLine}
 use Rattle.pg_match.specs.Machines.{Agrees, IsMachineOf}
 use Rattle.pg_pattern.specs.declared.bounds.Bounds.{Bounds}
-use Rattle.pg_match.specs.Memories.{Remembered, In, IsMemoryOf, Finishes, Settles}
+use Rattle.pg_match.specs.Dfas.{Dfa, In, IsDfaOf, Finishes, Settles}
 use Rattle.pg_match.specs.Stands.{HasRun}
 use Rattle.pg_match.specs.declared.dfa_line.KnownLine.{KnownLine}
 use Rattle.pg_match.proofs.CacheLemmas.{at_row, in_table, row_next}
@@ -84,20 +84,20 @@ module _ (end : ℕ) (bytes : List ℕ) (p : ℕ) (lt : p < length bytes)
     ended = λ past. absurd (omega arith);
   }
 
-module _ (m : Nfa) (mem : Remembered) (end : ℕ) (bytes : List ℕ) (is_m : IsRunnable m) (is : IsMemoryOf m mem) where
+module _ (m : Nfa) (table : Dfa) (end : ℕ) (bytes : List ℕ) (is_m : IsRunnable m) (is : IsDfaOf m table) where
   -- the first place of a line that isn't empty
-  pub line_begins : 1 ≤ mem.count → 0 < length bytes → (slice_index bytes 0 ≡ end → ⊥)
-      → StandsInLine m mem end bytes 256 0
+  pub line_begins : 1 ≤ table.count → 0 < length bytes → (slice_index bytes 0 ≡ end → ⊥)
+      → StandsInLine m table end bytes 256 0
   line_begins some more apart = record {
     within = more;
     clear = λ i le same.
         let first : i ≡ 0 = omega arith in
         apart (subst (λ k. slice_index bytes k ≡ end) first same);
-    row = at_row mem 256 1 refl some;
-    stands = λ n lt le. stands_first m (take n bytes) (In mem 1) (is.first some);
+    row = at_row table 256 1 refl some;
+    stands = λ n lt le. stands_first m (take n bytes) (In table 1) (is.first some);
   }
 
-  module _ (at p : ℕ) (s : StandsInLine m mem end bytes at p) where
+  module _ (at p : ℕ) (s : StandsInLine m table end bytes at p) where
     size : (n : ℕ) → n ≤ length bytes → length (take n bytes) ≡ n
     size n le = length-take-le n bytes le
 
@@ -107,11 +107,11 @@ module _ (m : Nfa) (mem : Remembered) (end : ℕ) (bytes : List ℕ) (is_m : IsR
 
     -- the next place
     pub line_on : (v : ℕ) → slice_index bytes p < 256 → p + 1 < length bytes → (slice_index bytes (p + 1) ≡ end → ⊥)
-        → v ≡ get_or mem.steps (at + slice_index bytes p) v → 256 ≤ v → StandsInLine m mem end bytes v (p + 1)
+        → v ≡ get_or table.steps (at + slice_index bytes p) v → 256 ≤ v → StandsInLine m table end bytes v (p + 1)
     line_on v small more apart read big =
         let b = slice_index bytes p in
-        let inside = in_table m mem at b is s.row small in
-        let told = row_next m mem at v b is s.row small (get_or_read mem.steps _ v inside read 0) big in
+        let inside = in_table m table at b is s.row small in
+        let told = row_next m table at v b is s.row small (get_or_read table.steps _ v inside read 0) big in
         record {
           within = more;
           clear = λ i le same. elim (cases_lt i (p + 1)) [
@@ -122,7 +122,7 @@ module _ (m : Nfa) (mem : Remembered) (end : ℕ) (bytes : List ℕ) (is_m : IsR
           ];
           row = told.0;
           stands = λ n lt le.
-              stands_next m (take n bytes) 0 p b (In mem (at / 256)) (In mem (v / 256)) (byte_in n (omega arith) le)
+              stands_next m (take n bytes) 0 p b (In table (at / 256)) (In table (v / 256)) (byte_in n (omega arith) le)
               (omega (arith, size n le)) (s.stands n (omega arith) le) told.2 (omega arith) is_m told.1;
         }
 
@@ -143,7 +143,7 @@ module _ (m : Nfa) (mem : Remembered) (end : ℕ) (bytes : List ℕ) (is_m : IsR
 
     -- the line was walked to its last byte
     pub line_finished : (answer : Bool) → (p + 1 ≡ length bytes) ⊎ (slice_index bytes (p + 1) ≡ end)
-        → Finishes m (slice_index bytes p) (In mem (at / 256)) answer
+        → Finishes m (slice_index bytes p) (In table (at / 256)) answer
         → TellsLine (λ l. HasRun m l 0) end bytes (record { has_hit = answer; read = p + 1 })
     line_finished answer last finishes =
         let next : p + 1 ≤ length bytes = omega (arith, s.within) in
@@ -158,7 +158,7 @@ module _ (m : Nfa) (mem : Remembered) (end : ℕ) (bytes : List ℕ) (is_m : IsR
         (omega (arith, size (p + 1) next)) (omega arith))
 
     -- what settles the line
-    pub line_settled : (answer : Bool) → Settles m (slice_index bytes p) (In mem (at / 256)) answer
+    pub line_settled : (answer : Bool) → Settles m (slice_index bytes p) (In table (at / 256)) answer
         → TellsLine (λ l. HasRun m l 0) end bytes (record { has_hit = answer; read = p + 1 })
     line_settled answer so = told answer (λ n f.
         so (take n bytes) 0 p (omega (arith, size n f.within, beyond n f)) (s.stands n (beyond n f) f.within)

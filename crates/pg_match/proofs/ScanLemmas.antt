@@ -1,4 +1,4 @@
--- What remembered rows tell of the hits from a place on.
+-- What the rows of the DFA cache tell of the hits from a place on.
 use Rattle.std.proofs.Common.{◌≡◌, ◌≢◌, ◌∙◌, ℕ, zero, suc, ◌+◌, ◌-◌, ◌/◌, ◌<◌, ◌≤◌, inl, inr, List, length, Bool, true}
 use Rattle.std.proofs.Common.{false, Option, Some, None}
 use Rattle.std.proofs.Common.{refl, sym, subst, arith, get_or}
@@ -12,7 +12,7 @@ use Rattle.pg_match.specs.Closures.{AreSeeds}
 use Rattle.pg_match.specs.Searches.{IsBest}
 use Rattle.pg_match.specs.Steps.{Goes, Reads, ReadsNone, HitBefore, EndsBehind}
 use Rattle.pg_match.specs.Stands.{Stands, HasRun, NoneBefore}
-use Rattle.pg_match.specs.Memories.{Remembered, fresh_at, In, IsMemoryOf, IsAtRow, StandsAt, HasScanned}
+use Rattle.pg_match.specs.Dfas.{Dfa, flag_at, In, IsDfaOf, IsAtRow, StandsAt, HasScanned}
 use Rattle.pg_match.specs.declared.state.State.{State}
 use Rattle.pg_match.specs.declared.state.State.TheVariants.{Accept}
 use Rattle.pg_match.proofs.SearchLemmas.{edge_moves}
@@ -56,46 +56,48 @@ stands_none m l from p S early empty = record {
   none = λ i j ge le lt. absurd (omega arith);
 }
 
-pub scan_first : (m : Nfa) (mem : Remembered) (l : List ℕ) (p : ℕ) → IsMemoryOf m mem → 1 ≤ mem.count → 1 ≤ length l
+pub scan_first : (m : Nfa) (table : Dfa) (l : List ℕ) (p : ℕ) → IsDfaOf m table → 1 ≤ table.count → 1 ≤ length l
     → p ≡ 0
-    → HasScanned m mem l 0 p 256 0
-scan_first m mem l p is some bytes e = record {
+    → HasScanned m table l 0 p 256 0
+scan_first m table l p is some bytes e = record {
   within = omega arith;
   near = omega arith;
-  row = at_row mem 256 1 refl some;
-  stands = subst (λ i. Stands m l 0 i (In mem 1)) (sym e) (stands_first m l (In mem 1) (is.first some));
+  row = at_row table 256 1 refl some;
+  stands = subst (λ i. Stands m l 0 i (In table 1)) (sym e) (stands_first m l (In table 1) (is.first some));
   later = omega arith;
   upto = omega arith;
   none = λ i j ge lt. absurd (omega arith);
 }
 
-pub scan_later : (m : Nfa) (mem : Remembered) (l : List ℕ) (from p : ℕ) → IsMemoryOf m mem → from ≢ 0 → from ≤ length l
+pub scan_later : (m : Nfa) (table : Dfa) (l : List ℕ) (from p : ℕ) → IsDfaOf m table → from ≢ 0 → from ≤ length l
     → p ≡ from - 1
-    → HasScanned m mem l from p 0 from
-scan_later m mem l from p is some within e = record {
+    → HasScanned m table l from p 0 from
+scan_later m table l from p is some within e = record {
   within = omega arith;
   near = omega arith;
-  row = at_row mem 0 0 refl (omega arith);
-  stands = stands_none m l from p (In mem 0) (omega arith) (λ q h. (let z = is.shape.none in omega (arith, h.1, h.2)));
+  row = at_row table 0 0 refl (omega arith);
+  stands = stands_none m l from p (In table 0) (omega arith)
+      (λ q h. (let z = is.shape.none in omega (arith, h.1, h.2)));
   later = omega arith;
   upto = within;
   none = λ i j ge lt. absurd (omega arith);
 }
 
-module _ (m : Nfa) (mem : Remembered) (l : List ℕ) (from p at start v b : ℕ) (is_m : IsRunnable m)
-    (is : IsMemoryOf m mem) (lt : b < 256)
-    (byte : slice_get l p ≡ Some b) (more : p + 1 < length l) (read : v ≡ slice_index mem.steps (at + b))
+module _ (m : Nfa) (table : Dfa) (l : List ℕ) (from p at start v b : ℕ) (is_m : IsRunnable m)
+    (is : IsDfaOf m table) (lt : b < 256)
+    (byte : slice_get l p ≡ Some b) (more : p + 1 < length l) (read : v ≡ slice_index table.steps (at + b))
     (big : 256 ≤ v)
-    (s : HasScanned m mem l from p at start) where
-  told : IsAtRow mem v × (HitBefore m b (In mem (at / 256)) → ⊥) × Goes m b (In mem (at / 256)) (In mem (v / 256))
-      × (fresh_at mem (v / 256) ≡ true → ReadsNone m b (In mem (at / 256)))
-  told = row_next m mem at v b is s.row lt read big
+    (s : HasScanned m table l from p at start) where
+  told : IsAtRow table v × (HitBefore m b (In table (at / 256)) → ⊥)
+      × Goes m b (In table (at / 256)) (In table (v / 256))
+      × (flag_at table (v / 256) ≡ true → ReadsNone m b (In table (at / 256)))
+  told = row_next m table at v b is s.row lt read big
 
-  next : StandsAt m mem l from (p + 1) v
-  next = stands_next m l from p b (In mem (at / 256)) (In mem (v / 256)) byte
+  next : StandsAt m table l from (p + 1) v
+  next = stands_next m l from p b (In table (at / 256)) (In table (v / 256)) byte
       (omega arith) s.stands told.2 s.near is_m told.1
 
-  pub scan_on : HasScanned m mem l from (p + 1) v start
+  pub scan_on : HasScanned m table l from (p + 1) v start
   scan_on = record {
     within = more;
     near = let n = s.near in omega arith;
@@ -106,7 +108,7 @@ module _ (m : Nfa) (mem : Remembered) (l : List ℕ) (from p at start v b : ℕ)
     none = s.none;
   }
 
-  pub scan_fresh : fresh_at mem (v / 256) ≡ true → HasScanned m mem l from (p + 1) v (p + 1)
+  pub scan_fresh : flag_at table (v / 256) ≡ true → HasScanned m table l from (p + 1) v (p + 1)
   scan_fresh f = record {
     within = more;
     near = let n = s.near in omega arith;
@@ -114,56 +116,58 @@ module _ (m : Nfa) (mem : Remembered) (l : List ℕ) (from p at start v b : ℕ)
     stands = next;
     later = s.near;
     upto = omega arith;
-    none = none_left m l from p b (In mem (at / 256)) (In mem (v / 256)) byte (omega arith) s.stands next (told.3 f);
+    none = none_left m l from p b (In table (at / 256)) (In table (v / 256)) byte (omega arith) s.stands next
+        (told.3 f);
   }
 
 -- the same, as the table and the line are read
-pub scan_read : (m : Nfa) (mem : Remembered) (l : List ℕ) (from p u at start v : ℕ) → u ≡ p + 1 → IsRunnable m
-    → IsMemoryOf m mem
-    → get_or l p 0 < 256 → u < length l → v ≡ get_or mem.steps (at + get_or l p 0) v → 256 ≤ v
-    → HasScanned m mem l from p at start → HasScanned m mem l from u v start
-scan_read m mem l from p u at start v e is_m is lt more read big s =
+pub scan_read : (m : Nfa) (table : Dfa) (l : List ℕ) (from p u at start v : ℕ) → u ≡ p + 1 → IsRunnable m
+    → IsDfaOf m table
+    → get_or l p 0 < 256 → u < length l → v ≡ get_or table.steps (at + get_or l p 0) v → 256 ≤ v
+    → HasScanned m table l from p at start → HasScanned m table l from u v start
+scan_read m table l from p u at start v e is_m is lt more read big s =
     let b = get_or l p 0 in
-    let inside = in_table m mem at b is s.row lt in
-    subst (λ w. HasScanned m mem l from w v start) (sym e)
-    (scan_on m mem l from p at start v b is_m is lt (slice_get-get_or l p 0 s.within) (omega arith)
-    (get_or_read mem.steps _ v inside read 0) big s)
+    let inside = in_table m table at b is s.row lt in
+    subst (λ w. HasScanned m table l from w v start) (sym e)
+    (scan_on m table l from p at start v b is_m is lt (slice_get-get_or l p 0 s.within) (omega arith)
+    (get_or_read table.steps _ v inside read 0) big s)
 
 -- two steps of it, three and four
-pub scan_two : (m : Nfa) (mem : Remembered) (l : List ℕ) (from p start at a b : ℕ) → IsRunnable m → IsMemoryOf m mem
-    → ((i : ℕ) → get_or l i 0 < 256) → p + 4 < length l → a ≡ get_or mem.steps (at + get_or l p 0) a → 256 ≤ a
-    → b ≡ get_or mem.steps (a + get_or l (p + 1) 0) b → 256 ≤ b → HasScanned m mem l from p at start
-    → HasScanned m mem l from (p + 2) b start
-scan_two m mem l from p start at a b is_m is small more ra ba rb bb s =
-    scan_read m mem l from (p + 1) (p + 2) a start b (omega arith) is_m is (small (p + 1)) (omega arith) rb bb
-    (scan_read m mem l from p (p + 1) at start a (omega arith) is_m is (small p) (omega arith) ra ba s)
+pub scan_two : (m : Nfa) (table : Dfa) (l : List ℕ) (from p start at a b : ℕ) → IsRunnable m → IsDfaOf m table
+    → ((i : ℕ) → get_or l i 0 < 256) → p + 4 < length l → a ≡ get_or table.steps (at + get_or l p 0) a → 256 ≤ a
+    → b ≡ get_or table.steps (a + get_or l (p + 1) 0) b → 256 ≤ b → HasScanned m table l from p at start
+    → HasScanned m table l from (p + 2) b start
+scan_two m table l from p start at a b is_m is small more ra ba rb bb s =
+    scan_read m table l from (p + 1) (p + 2) a start b (omega arith) is_m is (small (p + 1)) (omega arith) rb bb
+    (scan_read m table l from p (p + 1) at start a (omega arith) is_m is (small p) (omega arith) ra ba s)
 
-pub scan_three : (m : Nfa) (mem : Remembered) (l : List ℕ) (from p start at a b d : ℕ) → IsRunnable m
-    → IsMemoryOf m mem → ((i : ℕ) → get_or l i 0 < 256) → p + 4 < length l
-    → a ≡ get_or mem.steps (at + get_or l p 0) a → 256 ≤ a → b ≡ get_or mem.steps (a + get_or l (p + 1) 0) b → 256 ≤ b
-    → d ≡ get_or mem.steps (b + get_or l (p + 2) 0) d → 256 ≤ d → HasScanned m mem l from p at start
-    → HasScanned m mem l from (p + 3) d start
-scan_three m mem l from p start at a b d is_m is small more ra ba rb bb rd bd s =
-    scan_read m mem l from (p + 2) (p + 3) b start d (omega arith) is_m is (small (p + 2)) (omega arith) rd bd
-    (scan_two m mem l from p start at a b is_m is small more ra ba rb bb s)
+pub scan_three : (m : Nfa) (table : Dfa) (l : List ℕ) (from p start at a b d : ℕ) → IsRunnable m
+    → IsDfaOf m table → ((i : ℕ) → get_or l i 0 < 256) → p + 4 < length l
+    → a ≡ get_or table.steps (at + get_or l p 0) a → 256 ≤ a
+    → b ≡ get_or table.steps (a + get_or l (p + 1) 0) b → 256 ≤ b
+    → d ≡ get_or table.steps (b + get_or l (p + 2) 0) d → 256 ≤ d → HasScanned m table l from p at start
+    → HasScanned m table l from (p + 3) d start
+scan_three m table l from p start at a b d is_m is small more ra ba rb bb rd bd s =
+    scan_read m table l from (p + 2) (p + 3) b start d (omega arith) is_m is (small (p + 2)) (omega arith) rd bd
+    (scan_two m table l from p start at a b is_m is small more ra ba rb bb s)
 
-pub scan_read_fresh : (m : Nfa) (mem : Remembered) (l : List ℕ) (from p u at start v : ℕ) (f : Bool) → u ≡ p + 1
-    → IsRunnable m → IsMemoryOf m mem
-    → get_or l p 0 < 256 → u < length l → v ≡ get_or mem.steps (at + get_or l p 0) v → 256 ≤ v
-    → f ≡ get_or mem.fresh (v / 256) f → f ≡ true
-    → HasScanned m mem l from p at start → HasScanned m mem l from u v u
-scan_read_fresh m mem l from p u at start v f e is_m is lt more read big fresh is_fresh s =
+pub scan_read_fresh : (m : Nfa) (table : Dfa) (l : List ℕ) (from p u at start v : ℕ) (f : Bool) → u ≡ p + 1
+    → IsRunnable m → IsDfaOf m table
+    → get_or l p 0 < 256 → u < length l → v ≡ get_or table.steps (at + get_or l p 0) v → 256 ≤ v
+    → f ≡ get_or table.flags (v / 256) f → f ≡ true
+    → HasScanned m table l from p at start → HasScanned m table l from u v u
+scan_read_fresh m table l from p u at start v f e is_m is lt more read big fresh is_fresh s =
     let b = get_or l p 0 in
-    let inside = in_table m mem at b is s.row lt in
-    let on = scan_read m mem l from p u at start v e is_m is lt more read big s in
-    let in_fresh : v / 256 < length mem.fresh = omega (arith, on.row.known, is.shape.few, is.shape.fresh_size) in
-    subst (λ w. HasScanned m mem l from w v w) (sym e)
-    (scan_fresh m mem l from p at start v b is_m is lt (slice_get-get_or l p 0 s.within) (omega arith)
-    (get_or_read mem.steps _ v inside read 0) big s
-    (sym (get_or_read mem.fresh (v / 256) f in_fresh fresh false) ∙ is_fresh))
+    let inside = in_table m table at b is s.row lt in
+    let on = scan_read m table l from p u at start v e is_m is lt more read big s in
+    let has_flag : v / 256 < length table.flags = omega (arith, on.row.known, is.shape.few, is.shape.flags_size) in
+    subst (λ w. HasScanned m table l from w v w) (sym e)
+    (scan_fresh m table l from p at start v b is_m is lt (slice_get-get_or l p 0 s.within) (omega arith)
+    (get_or_read table.steps _ v inside read 0) big s
+    (sym (get_or_read table.flags (v / 256) f has_flag fresh false) ∙ is_fresh))
 
-pub in_fresh : (m : Nfa) (mem : Remembered) (v : ℕ) → IsMemoryOf m mem → IsAtRow mem v → v / 256 < length mem.fresh
-in_fresh m mem v is row = omega (arith, row.known, is.shape.few, is.shape.fresh_size)
+pub has_flag : (m : Nfa) (table : Dfa) (v : ℕ) → IsDfaOf m table → IsAtRow table v → v / 256 < length table.flags
+has_flag m table v is row = omega (arith, row.known, is.shape.few, is.shape.flags_size)
 
 -- where each seed that reads the byte ends a match behind it, each run from the start does
 one_byte : (t : List State) (l : List ℕ) (x i b : ℕ) (seeds : List ℕ) → AreSeeds t x seeds → slice_get l i ≡ Some b

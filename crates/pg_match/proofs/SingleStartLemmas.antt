@@ -11,7 +11,7 @@ use Rattle.pg_pattern.specs.Bounds.{MayBegin, MayEnd}
 use Rattle.pg_match.specs.Anchored.{NothingBefore, StandsFrom, IsLastEnd, Follows, IsAnchoredRun, IsAlone}
 use Rattle.pg_match.specs.Automata.{Nfa, Runs, IsRunnable}
 use Rattle.pg_match.specs.Closures.{Leads}
-use Rattle.pg_match.specs.Memories.{Remembered, In, Same, Keeps}
+use Rattle.pg_match.specs.Dfas.{Dfa, In, Same, Keeps}
 use Rattle.pg_match.specs.Closures.{AllBelow}
 use Rattle.pg_match.specs.Searches.{Alive, IsBest, ending, limit_of, start_bound}
 use Rattle.pg_match.specs.Starts.{GoesOn}
@@ -99,8 +99,8 @@ anchored_same m l s p last S U same t = record {
   found = t.found;
 }
 
--- a table that has more rows
-pub follows_keeps : (m : Nfa) (old new : Remembered) (l : List ℕ) (s p state : ℕ) (last : Option ℕ) → Keeps old new
+-- a DFA of which more rows are known
+pub follows_keeps : (m : Nfa) (old new : Dfa) (l : List ℕ) (s p state : ℕ) (last : Option ℕ) → Keeps old new
     → Follows m old l s p state last → Follows m new l s p state last
 follows_keeps m old new l s p state last k f = record {
   onward = f.onward;
@@ -112,7 +112,7 @@ follows_keeps m old new l s p state last k f = record {
 }
 
 -- the runs stand at a row
-pub follows_anchored : (m : Nfa) (t : Remembered) (l : List ℕ) (s p last row : ℕ) → row ≤ t.count
+pub follows_anchored : (m : Nfa) (t : Dfa) (l : List ℕ) (s p last row : ℕ) → row ≤ t.count
     → IsAnchoredRun m l s p last (In t row) → Follows m t l s p (256 * row) (Some last)
 follows_anchored m t l s p last row known run = record {
   onward = run.onward;
@@ -123,7 +123,7 @@ follows_anchored m t l s p last row known run = record {
 }
 
 -- the row's set was loaded
-pub anchored_loaded : (m : Nfa) (t : Remembered) (l : List ℕ) (s p last state : ℕ) (U : ℕ → Type 0)
+pub anchored_loaded : (m : Nfa) (t : Dfa) (l : List ℕ) (s p last state : ℕ) (U : ℕ → Type 0)
     → MayBegin m.bounds l s → Follows m t l s p state (Some last) → Same (In t (state / 256)) U
     → IsAnchoredRun m l s p last U
 anchored_loaded m t l s p last state U begins f same = record {

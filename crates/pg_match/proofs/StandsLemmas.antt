@@ -14,7 +14,7 @@ use Rattle.pg_match.specs.Searches.{RunsFrom}
 use Rattle.pg_match.specs.StateSets.{Members, mark}
 use Rattle.pg_match.specs.Steps.{Reads, Has, Closed, Goes, Starts, HitBefore, HitAtEnd, NoHitAtEnd, AnswersEnd}
 use Rattle.pg_match.specs.Steps.{begins_after, ends_before, Still, IsStill, IsQuiet, IsSpent}
-use Rattle.pg_match.specs.Memories.{IsHopeless}
+use Rattle.pg_match.specs.Dfas.{IsHopeless}
 use Rattle.pg_match.specs.Stands.{Stands, HasRun}
 use Rattle.pg_match.proofs.SearchLemmas.{edge_moves, runs_forward}
 use Rattle.pg_match.proofs.StepLemmas.{edge_still}

@@ -13,7 +13,7 @@ use Rattle.pg_bytes.specs.declared.byte_set.ByteSet.{ByteSet}
 use Rattle.pg_match.specs.Automata.{Nfa, Edge, Runs, IsTidy, target_below}
 use Rattle.pg_pattern.specs.Bounds.{MayBegin}
 use Rattle.pg_match.specs.Closures.{Leads, IsClosed, IsOrdered, AllBelow, AreSeeds, Reached}
-use Rattle.pg_match.specs.Memories.{Same}
+use Rattle.pg_match.specs.Dfas.{Same}
 use Rattle.pg_match.specs.Searches.{Seeded}
 use Rattle.pg_match.specs.Stands.{Stands}
 use Rattle.pg_match.specs.Starts.{AreAmong, Targeted, StartsBelow, SeedsStepped, SeedsMoved, WithSeeds, GoesOn}

@@ -1,10 +1,10 @@
--- Sets of the runs that began at one place, and where each byte leads from them: the table of anchored searches.
+-- The DFA of the runs that begin at one place, as far as it is known: that of anchored searches.
 use Rattle.std.specs.Prelude.{◌≡◌, ℕ, zero, suc, ◌+◌, ◌*◌, ◌/◌, ◌<◌, ◌≤◌, ◌⊎◌, ◌↔◌, Bool, true, false}
 use Rattle.std.specs.Prelude.{List, length, slice_get, slice_index, Option, Some, None}
 use Rattle.pg_match.specs.Automata.{Nfa, Edge, Runs}
 use Rattle.pg_match.specs.Closures.{Leads}
 use Rattle.pg_pattern.specs.Bounds.{MayBegin, MayEnd}
-use Rattle.pg_match.specs.Memories.{Remembered, In, IsShape, IsUnknown, IsAtRow, fresh_at, ended}
+use Rattle.pg_match.specs.Dfas.{Dfa, In, IsShape, IsUnknown, IsAtRow, flag_at, ended}
 use Rattle.pg_match.specs.Steps.{Reads, LeadsStill, IsStill, Starts, ReadsNone, AnswersEnd}
 use Rattle.pg_match.specs.Searches.{IsBestFrom, RunsFrom}
 use Rattle.pg_match.specs.declared.dfa_anchored.KnownSpan.{KnownSpan}
@@ -19,7 +19,7 @@ pub record GoesAlone (t : List State) (b : ℕ) (S U : ℕ → Type 0) : Type 0 
   pub still : IsStill t false false U
 
 -- what is known of a row and a byte: nothing, that no state of the row reads the byte, or which row is next
-abbrev pub ToldAlone : Nfa → Remembered → ℕ → ℕ → ℕ → Type 0
+abbrev pub ToldAlone : Nfa → Dfa → ℕ → ℕ → ℕ → Type 0
 ToldAlone m t r b v =
     IsUnknown v ⊎ (((v ≡ 2) × ReadsNone m b (In t r))
     ⊎ ((k : ℕ) × (v ≡ 256 * k) × (1 ≤ k) × (k ≤ t.count) × GoesAlone m.states b (In t r) (In t k)))
@@ -29,14 +29,14 @@ abbrev pub start_row : ℕ → ℕ
 start_row zero = 2
 start_row (suc s) = 1
 
--- What is remembered of the runs of one start is true of the automaton, for every line. A row's flag says whether a
--- match may end at a place inside a line whose set the row is. Row 1 is that of a start inside a line, and row 2 that
+-- What is known of the DFA of the runs of one start is true of the automaton, for every line. A row's flag says whether
+-- a match may end at a place inside a line whose set the row is. Row 1 is that of a start inside a line, and row 2 that
 -- of a start at a line's first place.
-pub record IsAnchoredMemoryOf (m : Nfa) (t : Remembered) : Type 0 where
+pub record IsAnchoredDfaOf (m : Nfa) (t : Dfa) : Type 0 where
   pub shape : IsShape (length m.states) t
   pub told : (r b : ℕ) → r ≤ t.count → b < 256 → ToldAlone m t r b (slice_index t.steps (256 * r + b))
   pub blank : (i : ℕ) → 256 * (t.count + 1) ≤ i → slice_index t.steps i ≡ 0
-  pub accepts : (r : ℕ) → 1 ≤ r → r ≤ t.count → (fresh_at t r ≡ true) ↔ In t r 0
+  pub accepts : (r : ℕ) → 1 ≤ r → r ≤ t.count → (flag_at t r ≡ true) ↔ In t r 0
   pub told_end : (r : ℕ) (answer : Bool) → ended t r ≡ Some answer
       → (r ≤ t.count) × AnswersEnd m false (In t r) answer
   pub inside : 1 ≤ t.count → Starts m false (In t 1)
@@ -82,7 +82,7 @@ IsLastEnd m l s p (Some e) =
     (s < e) × (e ≤ p) × MayEnd m.bounds l e × ((n : ℕ) × Runs m.states l n m.start s e) × NoEnd m l s e p
 
 -- in the middle of following the runs from s: the row of the state is the set of the place p
-pub record Follows (m : Nfa) (t : Remembered) (l : List ℕ) (s p state : ℕ) (last : Option ℕ) : Type 0 where
+pub record Follows (m : Nfa) (t : Dfa) (l : List ℕ) (s p state : ℕ) (last : Option ℕ) : Type 0 where
   pub onward : s ≤ p
   pub within : p ≤ length l
   pub row : IsAtRow t state
@@ -90,7 +90,7 @@ pub record Follows (m : Nfa) (t : Remembered) (l : List ℕ) (s p state : ℕ) (
   pub found : IsLastEnd m l s p last
 
 -- in the middle of following an anchored run: the row of the state is the set of its place
-abbrev pub FollowsRun : Nfa → Remembered → List ℕ → AnchoredRun → ℕ → Type 0
+abbrev pub FollowsRun : Nfa → Dfa → List ℕ → AnchoredRun → ℕ → Type 0
 FollowsRun m t l run state = Follows m t l run.start run.place state (Some run.last)
 
 -- the runs from s were followed to p, whose set S is
@@ -108,14 +108,14 @@ IsAlone m l from p S (Some b) = (from ≤ b.0) × NothingBefore m l from b.0 × 
 
 -- where a search begins at the first place of a line of more than one byte, the row is the set behind the first byte of
 -- the runs that begin there
-pub record IsSecondRow (m : Nfa) (t : Remembered) (l : List ℕ) (from row : ℕ) : Type 0 where
+pub record IsSecondRow (m : Nfa) (t : Dfa) (l : List ℕ) (from row : ℕ) : Type 0 where
   pub first : from ≡ 0
   pub more : 1 < length l
   pub known : row ≤ t.count
   pub stands : StandsFrom m l 0 1 (In t row)
 
--- Of n + 1 visits a state so many are left beside those of a search of n bytes from a place on: one for each place up to
--- that one, or, if a line's second set is known, for the line's first two.
+-- Of n + 1 visits a state so many are left beside those of a search of n bytes from a place on: one for each place up
+-- to that one, or, if a line's second set is known, for the line's first two.
 abbrev pub spared : ℕ → ℕ
 spared zero = 2
 spared (suc s) = s + 2

@@ -11,7 +11,7 @@ pub mod Searches
 pub mod Steps
 pub mod Starts
 pub mod Stands
-pub mod Memories
+pub mod Dfas
 pub mod Lines
 pub mod Anchored
 pub mod Views

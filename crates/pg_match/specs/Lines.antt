@@ -1,7 +1,7 @@
 -- What is known of the line that some bytes begin with before its end is.
 use Rattle.std.specs.Prelude.{◌≡◌, ℕ, ◌<◌, ◌≤◌, ◌↔◌, IsTrue, List, length, take, slice_index}
 use Rattle.pg_match.specs.Automata.{Nfa}
-use Rattle.pg_match.specs.Memories.{Remembered, IsAtRow, StandsAt}
+use Rattle.pg_match.specs.Dfas.{Dfa, IsAtRow, StandsAt}
 use Rattle.pg_match.specs.declared.dfa_line.KnownLine.{KnownLine}
 
 -- from a place inside a line on, its text goes up to another: there stands the byte that ends lines, and not before, or
@@ -23,7 +23,7 @@ pub record TellsLine (P : List ℕ → Type 0) (end : ℕ) (bytes : List ℕ) (k
   pub told : (n : ℕ) → IsFirstText end bytes n → IsTrue known.has_hit ↔ P (take n bytes)
 
 -- the row of the state is the set of a place in the first line, wherever behind that place the line ends
-pub record StandsInLine (m : Nfa) (t : Remembered) (end : ℕ) (bytes : List ℕ) (state p : ℕ) : Type 0 where
+pub record StandsInLine (m : Nfa) (t : Dfa) (end : ℕ) (bytes : List ℕ) (state p : ℕ) : Type 0 where
   pub within : p < length bytes
   pub clear : (i : ℕ) → i ≤ p → slice_index bytes i ≡ end → ⊥
   pub row : IsAtRow t state

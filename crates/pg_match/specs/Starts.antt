@@ -38,7 +38,8 @@ pub record StartsBelow (t : List State) (seeds targets cuts : List ℕ) (n : ℕ
   pub all : (b k r : ℕ) → b < n → k < length seeds → Reads (slice_get t (slice_index seeds k)) b r
       → (j : ℕ) × (slice_index cuts b ≤ j) × (j < slice_index cuts (b + 1)) × (slice_index targets j ≡ r)
 
--- the same of all bytes, and whether the state where matches end is a seed
+-- the states that each byte leads to from the seeds, one byte behind the other, where those of each begin and end, and
+-- whether the state where matches end is a seed
 pub record AreStarts (t : List State) (seeds targets cuts : List ℕ) (ends : Bool) : Type 0 where
   pub size : length cuts ≡ 257
   pub below : StartsBelow t seeds targets cuts 256
@@ -84,7 +85,7 @@ pub record GoesOn (t : List State) (seeds : List ℕ) (b : ℕ) (B : Type 0) (S 
 abbrev pub StandsUnseeded : Nfa → List ℕ → List ℕ → ℕ → ℕ → (ℕ → Type 0) → Type 0
 StandsUnseeded m seeds l from p S = Stands m l from p (WithSeeds seeds (MayBegin m.bounds l p) S)
 
--- What a search without the table finds: whether there is a hit from a place on, or the set of the place p that it came
+-- What a search without the cache finds: whether there is a hit from a place on, or the set of the place p that it came
 -- to.
 abbrev pub Searched : Nfa → List ℕ → List ℕ → ℕ → ℕ → (ℕ → Type 0) → Option Bool → Type 0
 Searched m seeds l from p S (Some answer) = IsTrue answer ↔ HasRun m l from

@@ -53,7 +53,7 @@ pub record Buffers : Type 0 where
   pub current : Members
   pub next : Members
 
--- both have room for so many states
+-- the sets of both places have room for so many states
 pub record HaveRoom (b : Buffers) (states : ℕ) : Type 0 where
   pub now : IsGood b.current
   pub next : IsGood b.next

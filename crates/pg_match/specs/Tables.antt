@@ -62,7 +62,7 @@ pub record Added (old new : List State) (p : Pattern) (e x : ℕ) : Type 0 where
   pub inside : e < length new
   pub size : length new ≡ length old + size_of p
 
--- the same for copies of the pattern, one behind the other
+-- the table grew by the states of copies of the pattern, one behind the other, which begin at e and go on at x
 pub record AddedCopies (old new : List State) (p : Pattern) (count e x : ℕ) : Type 0 where
   pub implements : Chain (Implements new p) count e x
   pub keeps : Keeps old new
@@ -71,7 +71,7 @@ pub record AddedCopies (old new : List State) (p : Pattern) (count e x : ℕ) : 
   pub inside : e < length new
   pub size : length new ≡ length old + count * size_of p
 
--- the same for copies that may be left out
+-- the table grew by the states of copies of the pattern that may be left out, which begin at e and go on at x
 pub record AddedOptional (old new : List State) (p : Pattern) (count e x : ℕ) : Type 0 where
   pub implements : Optional new (Implements new p) count e x
   pub keeps : Keeps old new

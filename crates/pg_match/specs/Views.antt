@@ -6,8 +6,8 @@ use Rattle.pg_match.specs.Starts.{AreStarts}
 use Rattle.pg_match.specs.declared.automaton.Automaton.{Automaton}
 use Rattle.pg_match.specs.declared.sparse_set.StateSet.{StateSet}
 use Rattle.pg_match.specs.declared.search.StateSets.{StateSets}
-use Rattle.pg_match.specs.Memories.{Remembered, IsMemoryOf}
-use Rattle.pg_match.specs.Anchored.{IsAnchoredMemoryOf}
+use Rattle.pg_match.specs.Dfas.{Dfa, IsDfaOf}
+use Rattle.pg_match.specs.Anchored.{IsAnchoredDfaOf}
 use Rattle.pg_match.specs.declared.dfa_cache.Cache.{Cache}
 use Rattle.std.specs.Prelude.{◌≡◌, ℕ, ◌+◌, Option, Some, None, length}
 
@@ -34,26 +34,27 @@ pub record IsBuilt {A : Type 0} (m : Automaton A) : Type 0 where
   pub seeds : AreSeeds m.states.items m.start m.seeds.items
   pub starts : AreStarts m.states.items m.seeds.items m.starts.targets.items m.starts.cuts.items m.starts.accepts
 
-abbrev pub remembered : {A : Type 0} → Cache A → Remembered
-remembered t = record {
+-- a cache as plain data
+abbrev pub dfa : {A : Type 0} → Cache A → Dfa
+dfa t = record {
   steps = t.steps.items;
   ends = t.ends.items;
-  fresh = t.fresh.items;
+  flags = t.flags.items;
   pool = t.pool.items;
   cuts = t.cuts.items;
   count = t.count;
 }
 
--- a table may have as many sets and states as before, and has been left for as many bytes
+-- a cache may have as many sets and states as before, and has been left for as many bytes
 abbrev pub SameLimits : {A : Type 0} → Cache A → Cache A → Type 0
 SameLimits old new = (new.most ≡ old.most) × (new.is_half ≡ old.is_half) × (new.lost ≡ old.lost)
 
--- what is remembered, if anything is, is true of the automaton
-abbrev pub Remembers : {A : Type 0} → Option (Cache A) → Nfa → Type 0
-Remembers None m = Unit {0}
-Remembers (Some t) m = IsMemoryOf m (remembered t)
+-- what the cache, if there is one, has of the DFA is true of the automaton
+abbrev pub CachesDfaOf : {A : Type 0} → Option (Cache A) → Nfa → Type 0
+CachesDfaOf None m = Unit {0}
+CachesDfaOf (Some t) m = IsDfaOf m (dfa t)
 
--- what is remembered of the runs of one start, if anything is, is true of the automaton
-abbrev pub RemembersAnchored : {A : Type 0} → Option (Cache A) → Nfa → Type 0
-RemembersAnchored None m = Unit {0}
-RemembersAnchored (Some t) m = IsAnchoredMemoryOf m (remembered t)
+-- what the cache, if there is one, has of the DFA of the runs of one start is true of the automaton
+abbrev pub CachesAnchoredDfaOf : {A : Type 0} → Option (Cache A) → Nfa → Type 0
+CachesAnchoredDfaOf None m = Unit {0}
+CachesAnchoredDfaOf (Some t) m = IsAnchoredDfaOf m (dfa t)

@@ -13,7 +13,7 @@ use crate::automaton::Automaton;
 use crate::closure::seeds;
 use crate::size::size;
 use crate::starts::starts_of;
-use crate::state::State;
+use crate::state::{ACCEPT, State};
 use pg_pattern::{Bounds, Tree};
 use std::alloc::{AllocError, Allocator};
 
@@ -50,7 +50,7 @@ pub(crate) fn assemble<A: Allocator + Copy>(
     push(&mut states, State::Accept)?;
     let mut start = 0;
     for i in 0..trees.len() {
-        let entry = add(&mut states, &trees[i], 0)?;
+        let entry = add(&mut states, &trees[i], ACCEPT)?;
         if i == 0 {
             start = entry;
         } else {

@@ -1,26 +1,27 @@
-//! The longest match from a known start, by the remembered sets of the runs that begin there.
+//! The longest match from a known start, by the DFA cache of the runs that begin there.
 ghost use Rattle.std.specs.Prelude.{◌≡◌, ◌+◌, ◌*◌, ◌<◌, ◌≤◌, ◌^◌, length, IfSome, IsTrue};
-ghost use Rattle.pg_match.specs.Anchored.{IsAnchoredMemoryOf, start_row, NothingBefore, TellsKnownSpan, known_span_of};
+ghost use Rattle.pg_match.specs.Anchored.{IsAnchoredDfaOf, start_row, NothingBefore, TellsKnownSpan, known_span_of};
 ghost use Rattle.pg_match.specs.Anchored.{Follows, IsLongestFrom};
-ghost use Rattle.pg_match.specs.Memories.{In, IsAtRow, Keeps, Same};
+ghost use Rattle.pg_match.specs.Dfas.{In, IsAtRow, Keeps, Same};
 ghost use Rattle.pg_match.specs.Searches.{IsBestFrom};
 ghost use Rattle.pg_match.specs.StateSets.{IsGood, HaveRoom};
 ghost use Rattle.pg_match.specs.Steps.{Has};
-ghost use Rattle.pg_match.specs.Views.{nfa, members, buffers, remembered, added, Tells, IsBuilt};
+ghost use Rattle.pg_match.specs.Views.{nfa, members, buffers, dfa, added, Tells, IsBuilt};
 
 use crate::automaton::Automaton;
-use crate::dfa_cache::{Cache, DEAD, LOST, SETS};
+use crate::dfa_cache::{Cache, DEAD, LOST, SETS, STRIDE, UNKNOWN};
 use crate::search::StateSets;
 use crate::sparse_set::StateSet;
+use crate::state::ACCEPT;
 use std::alloc::Allocator;
 
-/// What one try of a start may cost on average, in steps of the table for each start that is passed.
+/// What one try of a start may cost on average, in steps of the cache for each start that is passed.
 const TRY: usize = 64;
 
 /// What all tries may cost beyond that.
 const TRIES: usize = 1_024;
 
-/// At so many places more is remembered of the runs that begin there, behind one search that the table couldn't answer.
+/// At so many places more is remembered of the runs that begin there, behind one search that the cache couldn't answer.
 /// On long lines such a search takes long, so that more is remembered than what it needed.
 const PLACES: usize = 32;
 
@@ -28,7 +29,7 @@ const PLACES: usize = 32;
 /// the place pay for it, and once the runs of one start alone are left.
 pub(crate) const LONG: usize = 4_096;
 
-/// What remembered sets tell of the spans that begin at a place and have a byte.
+/// What the cache tells of the spans that begin at a place and have a byte.
 #[derive(Clone, Copy)]
 pub(crate) enum KnownSpan {
     /// The longest one ends here.
@@ -37,6 +38,16 @@ pub(crate) enum KnownSpan {
     Nothing(usize),
     /// That isn't remembered.
     Unknown,
+}
+
+/// How far the runs that begin at a place are known by rows.
+pub(crate) struct StartWalk {
+    /// The DFA state at the row of the place.
+    pub state: u32,
+    /// The place that was come to.
+    pub place: usize,
+    /// Where the last of the spans that end up to there ends, if one does.
+    pub last: Option<usize>,
 }
 
 /// The row of the set of a start at a place.
@@ -57,62 +68,56 @@ fn outcome_at(last: Option<usize>, place: usize) -> KnownSpan
 }
 
 impl<A: Allocator> Automaton<A> {
-    /// Follows the runs that begin at a place by what is remembered of them, as far as that goes. Answers the row and
-    /// the place that it comes to, and where the last of the spans ends that end up to there. The place is before the
-    /// line's end, and the row of the start is known.
+    /// Follows the runs that begin at a place by what is remembered of them, as far as that goes. The place is before
+    /// the line's end, and the row of the start is known.
     #[inline(always)]
-    pub(crate) fn follow_start(
-        &self,
-        memory: &Cache<A>,
-        line: &[u8],
-        start: usize,
-    ) -> (u32, usize, Option<usize>)
+    pub(crate) fn follow_start(&self, cache: &Cache<A>, line: &[u8], start: usize) -> StartWalk
         requires built { IsBuilt self.now }
-        requires memory { IsAnchoredMemoryOf (nfa self.now) (remembered memory.now) }
+        requires cache { IsAnchoredDfaOf (nfa self.now) (dfa cache.now) }
         requires start_in { start < length line.now }
-        requires known { start_row start ≤ memory.now.count }
-        ensures { Follows (nfa self.now) (remembered memory.now) line.now start result.1 result.0 result.2 }
+        requires known { start_row start ≤ cache.now.count }
+        ensures { Follows (nfa self.now) (dfa cache.now) line.now start result.place result.state result.last }
     {
-        let mut state = 256 * start_row(start) as u32;
+        let mut state = STRIDE * start_row(start) as u32;
         let mut place = start;
         let mut last = None;
         while place < line.len() {
-            let next = memory.steps[state as usize + line[place] as usize];
-            if next < 256 {
+            let next = cache.steps[state as usize + line[place] as usize];
+            if next < STRIDE {
                 break;
             }
             state = next;
             place += 1;
-            if memory.fresh[(next / 256) as usize] && self.bounds.may_end(line, place) {
+            if cache.flags[(next / STRIDE) as usize] && self.bounds.may_end(line, place) {
                 last = Some(place);
             }
         }
-        (state, place, last)
+        StartWalk { state, place, last }
     }
 
     /// What is remembered of the spans that begin at a place.
-    pub(crate) fn longest(&self, memory: &Cache<A>, line: &[u8], start: usize) -> KnownSpan
+    pub(crate) fn longest(&self, cache: &Cache<A>, line: &[u8], start: usize) -> KnownSpan
         requires built { IsBuilt self.now }
-        requires memory { IsAnchoredMemoryOf (nfa self.now) (remembered memory.now) }
+        requires cache { IsAnchoredDfaOf (nfa self.now) (dfa cache.now) }
         requires start_in { start ≤ length line.now }
         ensures { TellsKnownSpan (nfa self.now) line.now start result }
     {
-        if start >= line.len() || start_row(start) > memory.count {
+        if start >= line.len() || start_row(start) > cache.count {
             return KnownSpan::Unknown;
         }
         if !self.bounds.may_begin(line, start) {
             return KnownSpan::Nothing(start);
         }
-        let (state, place, last) = self.follow_start(memory, line, start);
+        let StartWalk { state, place, last } = self.follow_start(cache, line, start);
         if place < line.len() {
-            let next = memory.steps[state as usize + line[place] as usize];
+            let next = cache.steps[state as usize + line[place] as usize];
             return if next == DEAD {
                 outcome_at(last, place)
             } else {
                 KnownSpan::Unknown
             };
         }
-        match memory.ends[(state / 256) as usize] {
+        match cache.ends[(state / STRIDE) as usize] {
             Some(is_end) => if is_end {
                 KnownSpan::Longest(place)
             } else {
@@ -125,9 +130,9 @@ impl<A: Allocator> Automaton<A> {
     /// Tries one place after another from a start on, as far as it is remembered of the spans that begin there, and as
     /// long as that costs little for each. Answers the place that it comes to, and where the longest span from there
     /// ends, if one begins there.
-    fn try_starts(&self, memory: &Cache<A>, line: &[u8], start: usize) -> (usize, Option<usize>)
+    fn try_starts(&self, cache: &Cache<A>, line: &[u8], start: usize) -> (usize, Option<usize>)
         requires built { IsBuilt self.now }
-        requires memory { IsAnchoredMemoryOf (nfa self.now) (remembered memory.now) }
+        requires cache { IsAnchoredDfaOf (nfa self.now) (dfa cache.now) }
         requires start_in { start ≤ length line.now }
         ensures onward { (start ≤ result.0) × (result.0 ≤ length line.now) }
         ensures nothing { NothingBefore (nfa self.now) line.now start result.0 }
@@ -136,7 +141,7 @@ impl<A: Allocator> Automaton<A> {
         let mut place = start;
         let mut left = TRIES;
         while place < line.len() {
-            match self.longest(memory, line, place) {
+            match self.longest(cache, line, place) {
                 KnownSpan::Longest(end) => return (place, Some(end)),
                 KnownSpan::Unknown => return (place, None),
                 KnownSpan::Nothing(known) => {
@@ -152,27 +157,26 @@ impl<A: Allocator> Automaton<A> {
         (place, None)
     }
 
-    /// The row of a set, or 0 where there is no room.
-    pub(crate) fn keep_alone(&self, memory: &mut Cache<A>, set: &StateSet<A>) -> usize
+    /// The row of a set, if it is there or there is room for it.
+    pub(crate) fn keep_alone(&self, cache: &mut Cache<A>, set: &StateSet<A>) -> Option<usize>
         requires built { IsBuilt self.now }
-        requires memory { IsAnchoredMemoryOf (nfa self.now) (remembered memory.old) }
+        requires cache { IsAnchoredDfaOf (nfa self.now) (dfa cache.old) }
         requires good { IsGood (members set.now) }
         requires size { length set.now.marks.items ≡ length self.now.states.items }
-        requires some { 2 ≤ memory.old.count }
-        ensures memory { IsAnchoredMemoryOf (nfa self.now) (remembered memory.new) }
-        ensures keeps { Keeps (remembered memory.old) (remembered memory.new) }
-        ensures known { result ≤ memory.new.count }
-        ensures same { 1 ≤ result → Same (Has (members set.now)) (In (remembered memory.new) result) }
+        requires some { 2 ≤ cache.old.count }
+        ensures cache { IsAnchoredDfaOf (nfa self.now) (dfa cache.new) }
+        ensures keeps { Keeps (dfa cache.old) (dfa cache.new) }
+        ensures known { IfSome result (λ row. (1 ≤ row) × (row ≤ cache.new.count)) }
+        ensures same { IfSome result (λ row. Same (Has (members set.now)) (In (dfa cache.new) row)) }
     {
-        let accepts = set.marks[0] != 0;
-        let known = memory.find(set, accepts);
-        if known != 0 {
-            return known;
+        let accepts = set.marks[ACCEPT as usize] != 0;
+        if let Some(row) = cache.find(set, accepts) {
+            return Some(row);
         }
-        if memory.add(set, accepts) {
-            memory.count
+        if cache.add(set, accepts) {
+            Some(cache.count)
         } else {
-            0
+            None
         }
     }
 
@@ -180,98 +184,97 @@ impl<A: Allocator> Automaton<A> {
     pub(crate) fn learn_alone(
         &self,
         sets: &mut StateSets<A>,
-        memory: &mut Cache<A>,
+        cache: &mut Cache<A>,
         row: usize,
         byte: u8,
     ) -> Option<usize>
         requires built { IsBuilt self.now }
         requires room { HaveRoom (buffers sets.old) (length self.now.states.items) }
-        requires memory { IsAnchoredMemoryOf (nfa self.now) (remembered memory.old) }
-        requires known { row ≤ memory.old.count }
-        requires some { 2 ≤ memory.old.count }
+        requires cache { IsAnchoredDfaOf (nfa self.now) (dfa cache.old) }
+        requires known { row ≤ cache.old.count }
+        requires some { 2 ≤ cache.old.count }
         requires visits { sets.old.visits < 2 ^ 99 }
         ensures room { HaveRoom (buffers sets.new) (length self.now.states.items) }
-        ensures memory { IsAnchoredMemoryOf (nfa self.now) (remembered memory.new) }
-        ensures keeps { Keeps (remembered memory.old) (remembered memory.new) }
-        ensures some { 2 ≤ memory.new.count }
-        ensures known { IfSome result (λ next. next ≤ memory.new.count) }
+        ensures cache { IsAnchoredDfaOf (nfa self.now) (dfa cache.new) }
+        ensures keeps { Keeps (dfa cache.old) (dfa cache.new) }
+        ensures some { 2 ≤ cache.new.count }
+        ensures known { IfSome result (λ next. next ≤ cache.new.count) }
         ensures visits { sets.new.visits ≤ sets.old.visits + length self.now.states.items }
         ensures told { Tells sets.old sets.new }
     {
-        let step = memory.steps[256 * row + byte as usize];
-        if step >= 256 {
-            return Some((step / 256) as usize);
+        let step = cache.steps[STRIDE as usize * row + byte as usize];
+        if step >= STRIDE {
+            return Some((step / STRIDE) as usize);
         }
-        if step != 0 {
+        if step != UNKNOWN {
             return None;
         }
-        memory.load(row, &mut sets.current);
+        cache.load(row, &mut sets.current);
         self.go_on(sets, byte, false);
         if sets.current.len == 0 {
-            memory.mark(row, byte, DEAD);
+            cache.mark(row, byte, DEAD);
             return None;
         }
-        let to = self.keep_alone(memory, &sets.current);
-        if to == 0 {
-            memory.mark(row, byte, LOST);
+        let Some(to) = self.keep_alone(cache, &sets.current) else {
+            cache.mark(row, byte, LOST);
             return None;
-        }
-        memory.mark(row, byte, 256 * to as u32);
+        };
+        cache.mark(row, byte, STRIDE * to as u32);
         Some(to)
     }
 
     /// Learns whether a match ends where a line does, at a row.
-    fn learn_end(&self, sets: &mut StateSets<A>, memory: &mut Cache<A>, row: usize)
+    fn learn_end(&self, sets: &mut StateSets<A>, cache: &mut Cache<A>, row: usize)
         requires built { IsBuilt self.now }
         requires room { HaveRoom (buffers sets.old) (length self.now.states.items) }
-        requires memory { IsAnchoredMemoryOf (nfa self.now) (remembered memory.old) }
-        requires known { row ≤ memory.old.count }
+        requires cache { IsAnchoredDfaOf (nfa self.now) (dfa cache.old) }
+        requires known { row ≤ cache.old.count }
         requires visits { sets.old.visits < 2 ^ 98 }
         ensures room { HaveRoom (buffers sets.new) (length self.now.states.items) }
-        ensures memory { IsAnchoredMemoryOf (nfa self.now) (remembered memory.new) }
+        ensures cache { IsAnchoredDfaOf (nfa self.now) (dfa cache.new) }
         ensures visits { sets.new.visits ≤ sets.old.visits + length self.now.states.items }
         ensures told { Tells sets.old sets.new }
     {
-        if memory.ends[row].is_some() {
+        if cache.ends[row].is_some() {
             return;
         }
-        memory.load(row, &mut sets.current);
+        cache.load(row, &mut sets.current);
         let answer = self.hits_at_end(sets, false);
-        memory.mark_end(row, answer);
+        cache.mark_end(row, answer);
     }
 
     /// Adds the next of the first two rows, those of a start, if there is room.
-    pub(crate) fn first_alone(&self, sets: &mut StateSets<A>, memory: &mut Cache<A>) -> bool
+    pub(crate) fn first_alone(&self, sets: &mut StateSets<A>, cache: &mut Cache<A>) -> bool
         requires built { IsBuilt self.now }
         requires room { HaveRoom (buffers sets.old) (length self.now.states.items) }
-        requires memory { IsAnchoredMemoryOf (nfa self.now) (remembered memory.old) }
-        requires few { memory.old.count < 2 }
+        requires cache { IsAnchoredDfaOf (nfa self.now) (dfa cache.old) }
+        requires few { cache.old.count < 2 }
         requires visits { sets.old.visits < 2 ^ 98 }
         ensures room { HaveRoom (buffers sets.new) (length self.now.states.items) }
-        ensures memory { IsAnchoredMemoryOf (nfa self.now) (remembered memory.new) }
-        ensures more { IsTrue result → memory.old.count < memory.new.count }
+        ensures cache { IsAnchoredDfaOf (nfa self.now) (dfa cache.new) }
+        ensures more { IsTrue result → cache.old.count < cache.new.count }
         ensures next { members sets.new.next ≡ members sets.old.next }
         ensures visits { sets.new.visits ≤ sets.old.visits + length self.now.states.items }
         ensures told { Tells sets.old sets.new }
     {
-        self.begin(sets, memory.count == 1);
-        let accepts = sets.current.marks[0] != 0;
-        memory.add(&sets.current, accepts)
+        self.begin(sets, cache.count == 1);
+        let accepts = sets.current.marks[ACCEPT as usize] != 0;
+        cache.add(&sets.current, accepts)
     }
 
-    /// Goes on from a row at a place as long as the rows are known and the line has bytes there. Answers the row and
-    /// the place that it comes to.
-    fn walk_alone(&self, memory: &Cache<A>, line: &[u8], state: u32, place: usize) -> (u32, usize)
-        requires memory { IsAnchoredMemoryOf (nfa self.now) (remembered memory.now) }
-        requires row { IsAtRow (remembered memory.now) state }
-        ensures row { IsAtRow (remembered memory.now) result.0 }
+    /// Goes on from a row at a place as long as the rows are known and the line has bytes there. Answers the DFA state
+    /// at the row that it comes to, and the place.
+    fn walk_alone(&self, cache: &Cache<A>, line: &[u8], state: u32, place: usize) -> (u32, usize)
+        requires cache { IsAnchoredDfaOf (nfa self.now) (dfa cache.now) }
+        requires row { IsAtRow (dfa cache.now) state }
+        ensures row { IsAtRow (dfa cache.now) result.0 }
         ensures onward { place ≤ result.1 }
     {
         let mut at = state;
         let mut here = place;
         while here < line.len() {
-            let next = memory.steps[at as usize + line[here] as usize];
-            if next < 256 {
+            let next = cache.steps[at as usize + line[here] as usize];
+            if next < STRIDE {
                 break;
             }
             at = next;
@@ -285,40 +288,40 @@ impl<A: Allocator> Automaton<A> {
     fn study_from(
         &self,
         sets: &mut StateSets<A>,
-        memory: &mut Cache<A>,
+        cache: &mut Cache<A>,
         line: &[u8],
         start: usize,
         limit: usize,
     )
         requires built { IsBuilt self.now }
         requires room { HaveRoom (buffers sets.old) (length self.now.states.items) }
-        requires memory { IsAnchoredMemoryOf (nfa self.now) (remembered memory.old) }
+        requires cache { IsAnchoredDfaOf (nfa self.now) (dfa cache.old) }
         requires short { limit ≤ 2 ^ 30 }
         requires visits { sets.old.visits ≤ (limit + 1) * length self.now.states.items }
         ensures room { HaveRoom (buffers sets.new) (length self.now.states.items) }
-        ensures memory { IsAnchoredMemoryOf (nfa self.now) (remembered memory.new) }
+        ensures cache { IsAnchoredDfaOf (nfa self.now) (dfa cache.new) }
         ensures visits { sets.new.visits ≤ (limit + 1) * length self.now.states.items }
         ensures told { Tells sets.old sets.new }
     {
         let size = self.states.len() as u128;
         let most = limit as u128 * size;
-        while memory.count < 2 {
+        while cache.count < 2 {
             if sets.visits > most {
                 return;
             }
-            if !self.first_alone(sets, memory) {
+            if !self.first_alone(sets, cache) {
                 return;
             }
         }
-        let first = 256 * start_row(start) as u32;
-        let (mut state, mut place) = self.walk_alone(memory, line, first, start);
+        let first = STRIDE * start_row(start) as u32;
+        let (mut state, mut place) = self.walk_alone(cache, line, first, start);
         while place < line.len() {
             if sets.visits > most {
                 return;
             }
-            match self.learn_alone(sets, memory, (state / 256) as usize, line[place]) {
+            match self.learn_alone(sets, cache, (state / STRIDE) as usize, line[place]) {
                 Some(next) => {
-                    let (at, here) = self.walk_alone(memory, line, 256 * next as u32, place + 1);
+                    let (at, here) = self.walk_alone(cache, line, STRIDE * next as u32, place + 1);
                     state = at;
                     place = here;
                 }
@@ -326,7 +329,7 @@ impl<A: Allocator> Automaton<A> {
             }
         }
         if sets.visits <= most {
-            self.learn_end(sets, memory, (state / 256) as usize);
+            self.learn_end(sets, cache, (state / STRIDE) as usize);
         }
     }
 
@@ -336,7 +339,7 @@ impl<A: Allocator> Automaton<A> {
     fn study_starts(
         &self,
         sets: &mut StateSets<A>,
-        memory: &mut Cache<A>,
+        cache: &mut Cache<A>,
         line: &[u8],
         start: usize,
         places: usize,
@@ -344,19 +347,19 @@ impl<A: Allocator> Automaton<A> {
     ) -> bool
         requires built { IsBuilt self.now }
         requires room { HaveRoom (buffers sets.old) (length self.now.states.items) }
-        requires memory { IsAnchoredMemoryOf (nfa self.now) (remembered memory.old) }
+        requires cache { IsAnchoredDfaOf (nfa self.now) (dfa cache.old) }
         requires short { limit ≤ 2 ^ 30 }
         requires start_in { start ≤ length line.now }
         requires visits { sets.old.visits ≤ (limit + 1) * length self.now.states.items }
         ensures room { HaveRoom (buffers sets.new) (length self.now.states.items) }
-        ensures memory { IsAnchoredMemoryOf (nfa self.now) (remembered memory.new) }
+        ensures cache { IsAnchoredDfaOf (nfa self.now) (dfa cache.new) }
         ensures visits { sets.new.visits ≤ (limit + 1) * length self.now.states.items }
         ensures told { Tells sets.old sets.new }
     {
         let mut place = start;
         for _round in 0..places {
-            self.study_from(sets, memory, line, place, limit);
-            let (next, end) = self.try_starts(memory, line, place);
+            self.study_from(sets, cache, line, place, limit);
+            let (next, end) = self.try_starts(cache, line, place);
             if end.is_some() {
                 return true;
             }
@@ -372,25 +375,25 @@ impl<A: Allocator> Automaton<A> {
     fn study_both(
         &self,
         sets: &mut StateSets<A>,
-        memory: &mut Cache<A>,
+        cache: &mut Cache<A>,
         line: &[u8],
         place: usize,
         best: Option<(usize, usize)>,
     )
         requires built { IsBuilt self.now }
         requires room { HaveRoom (buffers sets.old) (length self.now.states.items) }
-        requires memory { IsAnchoredMemoryOf (nfa self.now) (remembered memory.old) }
+        requires cache { IsAnchoredDfaOf (nfa self.now) (dfa cache.old) }
         requires short { length line.now ≤ 2 ^ 30 }
         requires place_in { place ≤ length line.now }
         requires visits { sets.old.visits ≤ (length line.now + 1) * length self.now.states.items }
         ensures room { HaveRoom (buffers sets.new) (length self.now.states.items) }
-        ensures memory { IsAnchoredMemoryOf (nfa self.now) (remembered memory.new) }
+        ensures cache { IsAnchoredDfaOf (nfa self.now) (dfa cache.new) }
         ensures visits { sets.new.visits ≤ (length line.now + 1) * length self.now.states.items }
         ensures told { Tells sets.old sets.new }
     {
-        let is_known = self.study_starts(sets, memory, line, place, PLACES, line.len());
+        let is_known = self.study_starts(sets, cache, line, place, PLACES, line.len());
         match best {
-            Some((first, _)) if !is_known => self.study_from(sets, memory, line, first, line.len()),
+            Some((first, _)) if !is_known => self.study_from(sets, cache, line, first, line.len()),
             _ => {}
         }
     }
@@ -401,17 +404,17 @@ impl<A: Allocator> Automaton<A> {
     fn study_before(
         &self,
         sets: &mut StateSets<A>,
-        memory: &mut Cache<A>,
+        cache: &mut Cache<A>,
         line: &[u8],
         start: usize,
     ) -> (usize, Option<usize>)
         requires built { IsBuilt self.now }
         requires room { HaveRoom (buffers sets.old) (length self.now.states.items) }
-        requires memory { IsAnchoredMemoryOf (nfa self.now) (remembered memory.old) }
+        requires cache { IsAnchoredDfaOf (nfa self.now) (dfa cache.old) }
         requires short { length line.now ≤ 2 ^ 30 }
         requires start_in { start ≤ length line.now }
         ensures room { HaveRoom (buffers sets.new) (length self.now.states.items) }
-        ensures memory { IsAnchoredMemoryOf (nfa self.now) (remembered memory.new) }
+        ensures cache { IsAnchoredDfaOf (nfa self.now) (dfa cache.new) }
         ensures onward { (start ≤ result.0) × (result.0 ≤ length line.now) }
         ensures nothing { NothingBefore (nfa self.now) line.now start result.0 }
         ensures best { IfSome result.1 (λ end. IsLongestFrom (nfa self.now) line.now result.0 end) }
@@ -422,38 +425,38 @@ impl<A: Allocator> Automaton<A> {
         if start == 0 || line.len() - start < LONG {
             return (start, None);
         }
-        self.study_starts(sets, memory, line, start, line.len(), start - 1);
-        self.try_starts(memory, line, start)
+        self.study_starts(sets, cache, line, start, line.len(), start - 1);
+        self.try_starts(cache, line, start)
     }
 
     /// The best span from a place on, by what is remembered of the runs that begin there and behind it, or else by runs
-    /// of the automaton; then more is remembered, in a share of the room that both tables have. From a line's end there
+    /// of the automaton; then more is remembered, in a share of the room that both caches have. From a line's end there
     /// is none, and all visits are left to learn of the runs that begin where the line does.
     pub(crate) fn find_from(
         &self,
         sets: &mut StateSets<A>,
-        memory: &mut Cache<A>,
+        cache: &mut Cache<A>,
         anchored: &mut Cache<A>,
         line: &[u8],
         start: usize,
     ) -> Option<(usize, usize)>
         requires built { IsBuilt self.now }
         requires room { HaveRoom (buffers sets.old) (length self.now.states.items) }
-        requires anchored { IsAnchoredMemoryOf (nfa self.now) (remembered anchored.old) }
+        requires anchored { IsAnchoredDfaOf (nfa self.now) (dfa anchored.old) }
         requires short { length line.now ≤ 2 ^ 30 }
         requires start_in { start ≤ length line.now }
         ensures room { HaveRoom (buffers sets.new) (length self.now.states.items) }
-        ensures same { remembered memory.new ≡ remembered memory.old }
-        ensures anchored { IsAnchoredMemoryOf (nfa self.now) (remembered anchored.new) }
+        ensures same { dfa cache.new ≡ dfa cache.old }
+        ensures anchored { IsAnchoredDfaOf (nfa self.now) (dfa anchored.new) }
         ensures best { IsBestFrom (nfa self.now) line.now start result }
         ensures visits { sets.new.visits ≤ (length line.now + 1) * length self.now.states.items }
         ensures told { added sets.new ≡ added sets.old + sets.new.visits }
     {
         if start == line.len() {
             sets.visits = 0;
-            anchored.leave_room(memory.count.max(SETS / 2));
+            anchored.leave_room(cache.count.max(SETS / 2));
             self.study_from(sets, anchored, line, 0, line.len());
-            memory.leave_room(anchored.count);
+            cache.leave_room(anchored.count);
             return None;
         }
         let (known, end) = self.try_starts(anchored, line, start);
@@ -461,15 +464,15 @@ impl<A: Allocator> Automaton<A> {
             sets.visits = 0;
             return Some((known, end));
         }
-        anchored.leave_room(memory.count.max(SETS / 2));
+        anchored.leave_room(cache.count.max(SETS / 2));
         let (place, found) = self.study_before(sets, anchored, line, known);
-        memory.leave_room(anchored.count);
+        cache.leave_room(anchored.count);
         if let Some(end) = found {
             return Some((place, end));
         }
         let best = self.find_long(sets, anchored, line, place);
         self.study_both(sets, anchored, line, place, best);
-        memory.leave_room(anchored.count);
+        cache.leave_room(anchored.count);
         best
     }
 }

@@ -1,12 +1,12 @@
-//! The search of a line whose end isn't known yet, by remembered sets.
+//! The search of a line whose end isn't known yet, by the DFA cache.
 ghost use Rattle.std.specs.Prelude.{◌≡◌, ℕ, ◌<◌, ◌≤◌, length, slice_index, IfSome};
 ghost use Rattle.pg_match.specs.Lines.{IsFirstText, StandsInLine, TellsLine};
-ghost use Rattle.pg_match.specs.Memories.{IsMemoryOf};
+ghost use Rattle.pg_match.specs.Dfas.{IsDfaOf};
 ghost use Rattle.pg_match.specs.Stands.{HasRun};
-ghost use Rattle.pg_match.specs.Views.{nfa, remembered, IsBuilt};
+ghost use Rattle.pg_match.specs.Views.{nfa, dfa, IsBuilt};
 
 use crate::automaton::Automaton;
-use crate::dfa_cache::Cache;
+use crate::dfa_cache::{Cache, FIRST, STRIDE};
 use memchr::memchr;
 use std::alloc::Allocator;
 
@@ -37,23 +37,24 @@ fn first_end(end: u8, bytes: &[u8], place: usize) -> usize
 
 impl<A: Allocator> Automaton<A> {
     /// Walks by what is remembered through the line that some bytes begin with, which isn't empty, up to its last byte
-    /// or its `NEAR`th. Answers 256 times the row of a place, and the place.
+    /// or its `NEAR`th. Answers the DFA state at the row of a place, and the
+    /// place.
     #[inline(always)]
-    fn walk_line(&self, memory: &Cache<A>, end: u8, bytes: &[u8]) -> (u32, usize)
+    fn walk_line(&self, cache: &Cache<A>, end: u8, bytes: &[u8]) -> (u32, usize)
         requires built { IsBuilt self.now }
-        requires memory { IsMemoryOf (nfa self.now) (remembered memory.now) }
-        requires begins { StandsInLine (nfa self.now) (remembered memory.now) end bytes.now 256 0 }
-        ensures { StandsInLine (nfa self.now) (remembered memory.now) end bytes.now result.0 result.1 }
+        requires cache { IsDfaOf (nfa self.now) (dfa cache.now) }
+        requires begins { StandsInLine (nfa self.now) (dfa cache.now) end bytes.now 256 0 }
+        ensures { StandsInLine (nfa self.now) (dfa cache.now) end bytes.now result.0 result.1 }
     {
         let near = bytes.len().min(NEAR + 1);
-        let mut state = 256;
+        let mut state = FIRST;
         let mut place = 0;
         while place + 1 < near {
             if bytes[place + 1] == end {
                 break;
             }
-            let next = memory.steps[state as usize + bytes[place] as usize];
-            if next < 256 {
+            let next = cache.steps[state as usize + bytes[place] as usize];
+            if next < STRIDE {
                 break;
             }
             state = next;
@@ -65,47 +66,47 @@ impl<A: Allocator> Automaton<A> {
     /// What is remembered of the line that some bytes begin with, from a place inside it on. Its end is looked for.
     fn recall_rest(
         &self,
-        memory: &Cache<A>,
+        cache: &Cache<A>,
         end: u8,
         bytes: &[u8],
         state: u32,
         place: usize,
     ) -> Option<KnownLine>
         requires built { IsBuilt self.now }
-        requires memory { IsMemoryOf (nfa self.now) (remembered memory.now) }
-        requires stands { StandsInLine (nfa self.now) (remembered memory.now) end bytes.now state place }
+        requires cache { IsDfaOf (nfa self.now) (dfa cache.now) }
+        requires stands { StandsInLine (nfa self.now) (dfa cache.now) end bytes.now state place }
         ensures { IfSome result (TellsLine (λ l. HasRun (nfa self.now) l 0) end bytes.now) }
     {
         let read = first_end(end, bytes, place);
         let line = &bytes[..read];
-        let (at, here) = self.walk(memory, line, place, state);
+        let (at, here) = self.walk(cache, line, place, state);
         let has_hit = if here + 1 == read {
-            self.recall_end(memory, at, line[here])?
+            self.recall_end(cache, at, line[here])?
         } else {
-            self.recall_step(memory, at, line[here])?
+            self.recall_step(cache, at, line[here])?
         };
         Some(KnownLine { has_hit, read })
     }
 
     /// Whether the line that some bytes begin with has a hit, if that is remembered of its bytes; it isn't of an empty
     /// line. The end of a long line is looked for.
-    pub(crate) fn recall_line(&self, memory: &Cache<A>, end: u8, bytes: &[u8]) -> Option<KnownLine>
+    pub(crate) fn recall_line(&self, cache: &Cache<A>, end: u8, bytes: &[u8]) -> Option<KnownLine>
         requires built { IsBuilt self.now }
-        requires memory { IsMemoryOf (nfa self.now) (remembered memory.now) }
+        requires cache { IsDfaOf (nfa self.now) (dfa cache.now) }
         ensures { IfSome result (TellsLine (λ l. HasRun (nfa self.now) l 0) end bytes.now) }
     {
-        if memory.count == 0 || bytes.is_empty() || bytes[0] == end {
+        if cache.count == 0 || bytes.is_empty() || bytes[0] == end {
             return None;
         }
-        let (state, place) = self.walk_line(memory, end, bytes);
+        let (state, place) = self.walk_line(cache, end, bytes);
         let read = place + 1;
         if read == bytes.len() || bytes[read] == end {
-            let has_hit = self.recall_end(memory, state, bytes[place])?;
+            let has_hit = self.recall_end(cache, state, bytes[place])?;
             return Some(KnownLine { has_hit, read });
         }
-        match self.recall_step(memory, state, bytes[place]) {
+        match self.recall_step(cache, state, bytes[place]) {
             Some(has_hit) => Some(KnownLine { has_hit, read }),
-            None => self.recall_rest(memory, end, bytes, state, place),
+            None => self.recall_rest(cache, end, bytes, state, place),
         }
     }
 }

@@ -1,4 +1,4 @@
-//! The search for any match at all, by remembered sets.
+//! The search for any match at all, by the DFA cache.
 ghost use Rattle.std.specs.Prelude.{◌≡◌, ℕ, ◌+◌, ◌*◌, ◌/◌, ◌<◌, ◌≤◌, ◌^◌, ◌↔◌, ◌⊎◌};
 ghost use Rattle.std.specs.Prelude.{length, IsTrue, IfSome, List, true, false, slice_get};
 ghost use Rattle.pg_pattern.specs.Patterns.{Pattern};
@@ -8,12 +8,12 @@ ghost use Rattle.pg_pattern.specs.declared.bounds.Bounds.TheVariants.{Whole};
 ghost use Rattle.pg_match.specs.StateSets.{IsGood, HaveRoom};
 ghost use Rattle.pg_match.specs.Stands.{HasRun};
 ghost use Rattle.pg_match.specs.Steps.{Has, Starts, IsQuiet, IsSpent};
-ghost use Rattle.pg_match.specs.Memories.{IsMemoryOf, In, fresh_at, Same, Keeps, IsAtRow, StandsAt};
-ghost use Rattle.pg_match.specs.Memories.{Learned, Finishes, Settles};
-ghost use Rattle.pg_match.specs.Views.{nfa, members, buffers, remembered, added, Remembers, Tells, IsBuilt};
+ghost use Rattle.pg_match.specs.Dfas.{IsDfaOf, In, flag_at, Same, Keeps, IsAtRow, StandsAt};
+ghost use Rattle.pg_match.specs.Dfas.{Learned, Finishes, Settles};
+ghost use Rattle.pg_match.specs.Views.{nfa, members, buffers, dfa, added, CachesDfaOf, Tells, IsBuilt};
 
 use crate::automaton::Automaton;
-use crate::dfa_cache::{Cache, DEAD, HIT, LOST};
+use crate::dfa_cache::{Cache, DEAD, FIRST, HIT, LOST, STRIDE};
 use crate::dfa_cursor::{Crossing, Cursor};
 use crate::search::StateSets;
 use crate::sparse_set::StateSet;
@@ -21,12 +21,12 @@ use crate::state::State;
 use pg_pattern::Bounds;
 use std::alloc::Allocator;
 
-/// What a byte does to a remembered set.
+/// What a byte does to a set in the cache.
 #[derive(Clone, Copy)]
 pub(crate) enum Next {
     /// A match ends before it.
     Hit,
-    /// It leads to a row. The number is 256 times the row.
+    /// It leads to the row of this DFA state.
     Row(u32),
     /// It leads to a set for which there is no room.
     Lost,
@@ -83,26 +83,25 @@ impl<A: Allocator> Automaton<A> {
         self.begins_in(set) && are_quiet(&self.states, set)
     }
 
-    /// The row of a set, fresh or not, or 0 where there is no room.
-    fn keep(&self, memory: &mut Cache<A>, set: &StateSet<A>, is_fresh: bool) -> usize
-        requires memory { IsMemoryOf (nfa self.now) (remembered memory.old) }
+    /// The row of a set, fresh or not, if it is there or there is room for it.
+    fn keep(&self, cache: &mut Cache<A>, set: &StateSet<A>, is_fresh: bool) -> Option<usize>
+        requires cache { IsDfaOf (nfa self.now) (dfa cache.old) }
         requires good { IsGood (members set.now) }
         requires size { length set.now.marks.items ≡ length self.now.states.items }
-        requires some { 1 ≤ memory.old.count }
-        ensures memory { IsMemoryOf (nfa self.now) (remembered memory.new) }
-        ensures keeps { Keeps (remembered memory.old) (remembered memory.new) }
-        ensures known { result ≤ memory.new.count }
-        ensures same { 1 ≤ result → Same (Has (members set.now)) (In (remembered memory.new) result) }
-        ensures fresh { 1 ≤ result → fresh_at (remembered memory.new) result ≡ is_fresh }
+        requires some { 1 ≤ cache.old.count }
+        ensures cache { IsDfaOf (nfa self.now) (dfa cache.new) }
+        ensures keeps { Keeps (dfa cache.old) (dfa cache.new) }
+        ensures known { IfSome result (λ row. (1 ≤ row) × (row ≤ cache.new.count)) }
+        ensures same { IfSome result (λ row. Same (Has (members set.now)) (In (dfa cache.new) row)) }
+        ensures fresh { IfSome result (λ row. flag_at (dfa cache.new) row ≡ is_fresh) }
     {
-        let known = memory.find(set, is_fresh);
-        if known != 0 {
-            return known;
+        if let Some(row) = cache.find(set, is_fresh) {
+            return Some(row);
         }
-        if memory.add(set, is_fresh) {
-            memory.count
+        if cache.add(set, is_fresh) {
+            Some(cache.count)
         } else {
-            0
+            None
         }
     }
 
@@ -110,94 +109,93 @@ impl<A: Allocator> Automaton<A> {
     pub(crate) fn learn(
         &self,
         sets: &mut StateSets<A>,
-        memory: &mut Cache<A>,
+        cache: &mut Cache<A>,
         row: usize,
         byte: u8,
     ) -> Next
         requires built { IsBuilt self.now }
         requires room { HaveRoom (buffers sets.old) (length self.now.states.items) }
-        requires memory { IsMemoryOf (nfa self.now) (remembered memory.old) }
-        requires known { row ≤ memory.old.count }
-        requires some { 1 ≤ memory.old.count }
+        requires cache { IsDfaOf (nfa self.now) (dfa cache.old) }
+        requires known { row ≤ cache.old.count }
+        requires some { 1 ≤ cache.old.count }
         requires visits { sets.old.visits < 2 ^ 99 }
         ensures room { HaveRoom (buffers sets.new) (length self.now.states.items) }
-        ensures memory { IsMemoryOf (nfa self.now) (remembered memory.new) }
-        ensures learned { Learned (nfa self.now) (remembered memory.old) (remembered memory.new) row byte
+        ensures cache { IsDfaOf (nfa self.now) (dfa cache.new) }
+        ensures learned { Learned (nfa self.now) (dfa cache.old) (dfa cache.new) row byte
             (members sets.new.current) result }
-        ensures some { 1 ≤ memory.new.count }
+        ensures some { 1 ≤ cache.new.count }
         ensures visits { sets.new.visits ≤ sets.old.visits + sets.new.current.len }
         ensures told { Tells sets.old sets.new }
     {
-        if memory.steps[256 * row + byte as usize] == HIT {
+        if cache.steps[STRIDE as usize * row + byte as usize] == HIT {
             return Next::Hit;
         }
-        if memory.steps[256 * row + byte as usize] == DEAD {
+        if cache.steps[STRIDE as usize * row + byte as usize] == DEAD {
             return Next::Dead;
         }
-        memory.load(row, &mut sets.current);
+        cache.load(row, &mut sets.current);
         if self.hits_before(&sets.current, byte) {
-            memory.mark(row, byte, HIT);
+            cache.mark(row, byte, HIT);
             return Next::Hit;
         }
         let is_fresh = self.go(sets, byte);
         if self.is_dead(&sets.current) {
-            memory.mark(row, byte, DEAD);
+            cache.mark(row, byte, DEAD);
             return Next::Dead;
         }
-        let to = self.keep(memory, &sets.current, is_fresh);
-        if to == 0 {
-            memory.mark(row, byte, LOST);
+        let Some(to) = self.keep(cache, &sets.current, is_fresh) else {
+            cache.mark(row, byte, LOST);
             return Next::Lost;
-        }
-        memory.mark(row, byte, 256 * to as u32);
-        Next::Row(256 * to as u32)
+        };
+        cache.mark(row, byte, STRIDE * to as u32);
+        Next::Row(STRIDE * to as u32)
     }
 
     /// Walks by what is remembered, up to the line's last byte.
     #[inline(always)]
     pub(crate) fn walk(
         &self,
-        memory: &Cache<A>,
+        cache: &Cache<A>,
         line: &[u8],
         from: usize,
         state: u32,
     ) -> (u32, usize)
         requires built { IsBuilt self.now }
-        requires memory { IsMemoryOf (nfa self.now) (remembered memory.now) }
+        requires cache { IsDfaOf (nfa self.now) (dfa cache.now) }
         requires from_in { from < length line.now }
-        requires row { IsAtRow (remembered memory.now) state }
+        requires row { IsAtRow (dfa cache.now) state }
         ensures within { result.1 < length line.now }
         ensures onward { from ≤ result.1 }
-        ensures row { IsAtRow (remembered memory.now) result.0 }
+        ensures row { IsAtRow (dfa cache.now) result.0 }
         ensures stands { (start : ℕ) → start ≤ from + 1
-            → StandsAt (nfa self.now) (remembered memory.now) line.now start from state
-            → StandsAt (nfa self.now) (remembered memory.now) line.now start result.1 result.0 }
+            → StandsAt (nfa self.now) (dfa cache.now) line.now start from state
+            → StandsAt (nfa self.now) (dfa cache.now) line.now start result.1 result.0 }
     {
         let mut at = state;
         let mut place = from;
         while place + 4 < line.len() {
-            let one = memory.steps[at as usize + line[place] as usize];
-            if one < 256 {
+            let one = cache.steps[at as usize + line[place] as usize];
+            if one < STRIDE {
                 break;
             }
-            let two = memory.steps[one as usize + line[place + 1] as usize];
-            if two < 256 {
+            let two = cache.steps[one as usize + line[place + 1] as usize];
+            if two < STRIDE {
                 break;
             }
-            let three = memory.steps[two as usize + line[place + 2] as usize];
-            if three < 256 {
+            let three = cache.steps[two as usize + line[place + 2] as usize];
+            if three < STRIDE {
                 break;
             }
-            let four = memory.steps[three as usize + line[place + 3] as usize];
-            if four < 256 {
+            let four = cache.steps[three as usize + line[place + 3] as usize];
+            if four < STRIDE {
                 break;
             }
             at = four;
             place += 4;
         }
         while place + 1 < line.len() {
-            let next = memory.steps[at as usize + line[place] as usize];
-            if next < 256 {
+            let next = cache.steps[at as usize + line[place] as usize];
+            if next < STRIDE {
                 break;
             }
             at = next;
@@ -207,36 +205,36 @@ impl<A: Allocator> Automaton<A> {
     }
 
     /// Sees to the first row, if there is room, at the begin of a search.
-    pub(crate) fn first(&self, sets: &mut StateSets<A>, memory: &mut Cache<A>) -> bool
+    pub(crate) fn first(&self, sets: &mut StateSets<A>, cache: &mut Cache<A>) -> bool
         requires built { IsBuilt self.now }
         requires room { HaveRoom (buffers sets.old) (length self.now.states.items) }
-        requires memory { IsMemoryOf (nfa self.now) (remembered memory.old) }
+        requires cache { IsDfaOf (nfa self.now) (dfa cache.old) }
         requires visits { sets.old.visits < 2 ^ 98 }
         ensures room { HaveRoom (buffers sets.new) (length self.now.states.items) }
-        ensures memory { IsMemoryOf (nfa self.now) (remembered memory.new) }
+        ensures cache { IsDfaOf (nfa self.now) (dfa cache.new) }
         ensures visits { sets.new.visits ≤ sets.old.visits + length self.now.states.items }
         ensures told { Tells sets.old sets.new }
-        ensures some { IsTrue result → 1 ≤ memory.new.count }
+        ensures some { IsTrue result → 1 ≤ cache.new.count }
         ensures full { result ≡ false → (sets.new.visits ≡ sets.old.visits + sets.new.current.len)
             × Starts (nfa self.now) true (Has (members sets.new.current)) }
     {
-        memory.refresh();
-        if memory.count > 0 {
+        cache.refresh();
+        if cache.count > 0 {
             return true;
         }
         self.begin(sets, true);
-        memory.add(&sets.current, true)
+        cache.add(&sets.current, true)
     }
 
     /// Whether a line has a hit in which a row stands before a byte, if what is remembered of the byte tells that of
     /// all such lines.
-    pub(crate) fn recall_step(&self, memory: &Cache<A>, state: u32, byte: u8) -> Option<bool>
+    pub(crate) fn recall_step(&self, cache: &Cache<A>, state: u32, byte: u8) -> Option<bool>
         requires built { IsBuilt self.now }
-        requires memory { IsMemoryOf (nfa self.now) (remembered memory.now) }
-        requires row { IsAtRow (remembered memory.now) state }
-        ensures { IfSome result (Settles (nfa self.now) byte (In (remembered memory.now) (state / 256))) }
+        requires cache { IsDfaOf (nfa self.now) (dfa cache.now) }
+        requires row { IsAtRow (dfa cache.now) state }
+        ensures { IfSome result (Settles (nfa self.now) byte (In (dfa cache.now) (state / 256))) }
     {
-        match memory.steps[state as usize + byte as usize] {
+        match cache.steps[state as usize + byte as usize] {
             HIT => Some(true),
             DEAD => Some(false),
             _ => None,
@@ -244,50 +242,50 @@ impl<A: Allocator> Automaton<A> {
     }
 
     /// Whether a match ends right before or behind the last byte of a line, if that is remembered.
-    pub(crate) fn recall_end(&self, memory: &Cache<A>, state: u32, byte: u8) -> Option<bool>
+    pub(crate) fn recall_end(&self, cache: &Cache<A>, state: u32, byte: u8) -> Option<bool>
         requires built { IsBuilt self.now }
-        requires memory { IsMemoryOf (nfa self.now) (remembered memory.now) }
-        requires row { IsAtRow (remembered memory.now) state }
-        ensures { IfSome result (Finishes (nfa self.now) byte (In (remembered memory.now) (state / 256))) }
+        requires cache { IsDfaOf (nfa self.now) (dfa cache.now) }
+        requires row { IsAtRow (dfa cache.now) state }
+        ensures { IfSome result (Finishes (nfa self.now) byte (In (dfa cache.now) (state / 256))) }
     {
-        if let Some(answer) = self.recall_step(memory, state, byte) {
+        if let Some(answer) = self.recall_step(cache, state, byte) {
             return Some(answer);
         }
-        let next = memory.steps[state as usize + byte as usize];
-        if next < 256 {
+        let next = cache.steps[state as usize + byte as usize];
+        if next < STRIDE {
             return None;
         }
-        memory.ends[(next / 256) as usize]
+        cache.ends[(next / STRIDE) as usize]
     }
 
     /// Whether a match ends right before or behind the last byte of a line.
     pub(crate) fn finish(
         &self,
         sets: &mut StateSets<A>,
-        memory: &mut Cache<A>,
+        cache: &mut Cache<A>,
         state: u32,
         byte: u8,
     ) -> bool
         requires built { IsBuilt self.now }
         requires room { HaveRoom (buffers sets.old) (length self.now.states.items) }
-        requires memory { IsMemoryOf (nfa self.now) (remembered memory.old) }
-        requires row { IsAtRow (remembered memory.old) state }
-        requires some { 1 ≤ memory.old.count }
+        requires cache { IsDfaOf (nfa self.now) (dfa cache.old) }
+        requires row { IsAtRow (dfa cache.old) state }
+        requires some { 1 ≤ cache.old.count }
         requires visits { sets.old.visits < 2 ^ 98 }
         ensures room { HaveRoom (buffers sets.new) (length self.now.states.items) }
-        ensures memory { IsMemoryOf (nfa self.now) (remembered memory.new) }
-        ensures finishes { Finishes (nfa self.now) byte (In (remembered memory.old) (state / 256)) result }
+        ensures cache { IsDfaOf (nfa self.now) (dfa cache.new) }
+        ensures finishes { Finishes (nfa self.now) byte (In (dfa cache.old) (state / 256)) result }
         ensures visits { sets.new.visits ≤ sets.old.visits + length self.now.states.items }
         ensures told { Tells sets.old sets.new }
     {
-        if let Some(answer) = self.recall_end(memory, state, byte) {
+        if let Some(answer) = self.recall_end(cache, state, byte) {
             return answer;
         }
-        match self.learn(sets, memory, (state / 256) as usize, byte) {
+        match self.learn(sets, cache, (state / STRIDE) as usize, byte) {
             Next::Hit => true,
             Next::Row(to) => {
                 let answer = self.hits_at_end(sets, false);
-                memory.mark_end((to / 256) as usize, answer);
+                cache.mark_end((to / STRIDE) as usize, answer);
                 answer
             }
             Next::Lost => self.hits_at_end(sets, false),
@@ -296,34 +294,34 @@ impl<A: Allocator> Automaton<A> {
     }
 
     /// Whether some span of a line that isn't empty is a hit, by what is remembered.
-    fn recall(&self, sets: &mut StateSets<A>, memory: &mut Cache<A>, line: &[u8]) -> bool
+    fn recall(&self, sets: &mut StateSets<A>, cache: &mut Cache<A>, line: &[u8]) -> bool
         requires built { IsBuilt self.now }
         requires room { HaveRoom (buffers sets.old) (length self.now.states.items) }
-        requires memory { IsMemoryOf (nfa self.now) (remembered memory.old) }
+        requires cache { IsDfaOf (nfa self.now) (dfa cache.old) }
         requires bytes { 1 ≤ length line.now }
         requires short { length line.now ≤ 2 ^ 30 }
         requires visits { sets.old.visits ≡ 0 }
         ensures room { HaveRoom (buffers sets.new) (length self.now.states.items) }
-        ensures memory { IsMemoryOf (nfa self.now) (remembered memory.new) }
+        ensures cache { IsDfaOf (nfa self.now) (dfa cache.new) }
         ensures exact { IsTrue result ↔ HasRun (nfa self.now) line.now 0 }
         ensures visits { sets.new.visits ≤ (length line.now + 1) * length self.now.states.items }
         ensures told { Tells sets.old sets.new }
     {
-        if !self.first(sets, memory) {
+        if !self.first(sets, cache) {
             return self.search_first(sets, line);
         }
         let mut cursor = Cursor {
             from: 0,
             place: 0,
-            state: 256,
+            state: FIRST,
         };
         loop {
-            let (state, place) = self.walk(memory, line, cursor.place, cursor.state);
+            let (state, place) = self.walk(cache, line, cursor.place, cursor.state);
             if place + 1 == line.len() {
-                return self.finish(sets, memory, state, line[place]);
+                return self.finish(sets, cache, state, line[place]);
             }
             let from = cursor.from;
-            match self.cross(sets, memory, line, Cursor { from, place, state }) {
+            match self.cross(sets, cache, line, Cursor { from, place, state }) {
                 Crossing::Found(answer) => return answer,
                 Crossing::At(next) => cursor = next,
             }
@@ -334,15 +332,15 @@ impl<A: Allocator> Automaton<A> {
     pub(crate) fn selects(
         &self,
         sets: &mut StateSets<A>,
-        memory: &mut Option<Cache<A>>,
+        cache: &mut Option<Cache<A>>,
         line: &[u8],
     ) -> bool
         requires built { IsBuilt self.now }
         requires room { HaveRoom (buffers sets.old) (length self.now.states.items) }
-        requires memory { Remembers memory.old (nfa self.now) }
+        requires cache { CachesDfaOf cache.old (nfa self.now) }
         requires short { length line.now ≤ 2 ^ 30 }
         ensures room { HaveRoom (buffers sets.new) (length self.now.states.items) }
-        ensures memory { Remembers memory.new (nfa self.now) }
+        ensures cache { CachesDfaOf cache.new (nfa self.now) }
         ensures exact { (patterns : List Pattern) → Agrees (nfa self.now) patterns
             → (IsTrue result ↔ HasHit patterns self.now.bounds line.now) }
         ensures visits { sets.new.visits ≤ (length line.now + 1) * length self.now.states.items }
@@ -352,8 +350,8 @@ impl<A: Allocator> Automaton<A> {
         if !self.some {
             return false;
         }
-        match memory {
-            Some(memory) if !line.is_empty() => self.recall(sets, memory, line),
+        match cache {
+            Some(cache) if !line.is_empty() => self.recall(sets, cache, line),
             _ => self.search(sets, line),
         }
     }

@@ -1,4 +1,4 @@
-//! What remembered sets tell of the hits of a line from a place on, before any marks are set.
+//! What the DFA cache tells of the hits of a line from a place on, before any marks are set.
 ghost use Rattle.std.specs.Prelude.{◌≡◌, ◌+◌, ◌*◌, ◌/◌, ◌<◌, ◌≤◌, ◌^◌, length, IsTrue, List, MatchOption};
 ghost use Rattle.pg_pattern.specs.Patterns.{Pattern};
 ghost use Rattle.pg_pattern.specs.Hits.{HasNoNext, IsNext};
@@ -8,15 +8,15 @@ ghost use Rattle.pg_match.specs.Anchored.{IsLongestFrom};
 ghost use Rattle.pg_match.specs.Searches.{IsBestFrom};
 ghost use Rattle.pg_match.specs.Closures.{AreSeeds};
 ghost use Rattle.pg_match.specs.Steps.{EndsBehind};
-ghost use Rattle.pg_match.specs.Memories.{IsMemoryOf, HasScanned, Scanned};
-ghost use Rattle.pg_match.specs.Views.{nfa, buffers, remembered, added, Remembers, IsBuilt};
-ghost use Rattle.pg_match.specs.Views.{RemembersAnchored, Tells};
+ghost use Rattle.pg_match.specs.Dfas.{IsDfaOf, HasScanned, Scanned};
+ghost use Rattle.pg_match.specs.Views.{nfa, buffers, dfa, added, CachesDfaOf, IsBuilt};
+ghost use Rattle.pg_match.specs.Views.{CachesAnchoredDfaOf, Tells};
 
 use crate::automaton::Automaton;
-use crate::dfa_cache::{Cache, DEAD, HIT, LOST};
+use crate::dfa_cache::{Cache, DEAD, EMPTY, FIRST, HIT, LOST, STRIDE};
 use crate::dfa_search::Next;
 use crate::search::StateSets;
-use crate::state::State;
+use crate::state::{ACCEPT, State};
 use std::alloc::Allocator;
 
 /// What is known of the hits from a place on.
@@ -30,95 +30,106 @@ pub(crate) enum Scan {
     Unknown(usize),
 }
 
+/// How far a line is known by rows.
+struct LineWalk {
+    /// The DFA state at the row of the place.
+    state: u32,
+    place: usize,
+    /// No hit begins from where the search began on before this place.
+    start: usize,
+}
+
 impl<A: Allocator> Automaton<A> {
     /// Goes on from a row that stands at a place, four bytes at a time, as long as their rows are known and no hit ends
-    /// before them. Answers the row and the place that it comes to, and a place before which no hit begins.
+    /// before them.
     #[inline(always)]
     fn follow_rows(
         &self,
-        memory: &Cache<A>,
+        cache: &Cache<A>,
         line: &[u8],
         from: usize,
         state: u32,
         place: usize,
-    ) -> (u32, usize, usize)
+    ) -> LineWalk
         requires built { IsBuilt self.now }
-        requires memory { IsMemoryOf (nfa self.now) (remembered memory.now) }
-        requires scanned { HasScanned (nfa self.now) (remembered memory.now) line.now from place state from }
-        ensures { HasScanned (nfa self.now) (remembered memory.now) line.now from result.1 result.0 result.2 }
+        requires cache { IsDfaOf (nfa self.now) (dfa cache.now) }
+        requires scanned { HasScanned (nfa self.now) (dfa cache.now) line.now from place state from }
+        ensures { HasScanned (nfa self.now) (dfa cache.now) line.now from result.place result.state result.start }
     {
         let mut at = state;
         let mut here = place;
         let mut start = from;
         while here + 4 < line.len() {
-            let one = memory.steps[at as usize + line[here] as usize];
-            if one < 256 {
+            let one = cache.steps[at as usize + line[here] as usize];
+            if one < STRIDE {
                 break;
             }
-            let two = memory.steps[one as usize + line[here + 1] as usize];
-            if two < 256 {
+            let two = cache.steps[one as usize + line[here + 1] as usize];
+            if two < STRIDE {
                 break;
             }
-            let three = memory.steps[two as usize + line[here + 2] as usize];
-            if three < 256 {
+            let three = cache.steps[two as usize + line[here + 2] as usize];
+            if three < STRIDE {
                 break;
             }
-            let four = memory.steps[three as usize + line[here + 3] as usize];
-            if four < 256 {
+            let four = cache.steps[three as usize + line[here + 3] as usize];
+            if four < STRIDE {
                 break;
             }
-            if memory.fresh[(four / 256) as usize] {
+            if cache.flags[(four / STRIDE) as usize] {
                 start = here + 4;
-            } else if memory.fresh[(three / 256) as usize] {
+            } else if cache.flags[(three / STRIDE) as usize] {
                 start = here + 3;
-            } else if memory.fresh[(two / 256) as usize] {
+            } else if cache.flags[(two / STRIDE) as usize] {
                 start = here + 2;
-            } else if memory.fresh[(one / 256) as usize] {
+            } else if cache.flags[(one / STRIDE) as usize] {
                 start = here + 1;
             }
             at = four;
             here += 4;
         }
-        (at, here, start)
+        LineWalk {
+            state: at,
+            place: here,
+            start,
+        }
     }
 
     /// Looks for hits from a place on in a line that isn't empty, by what is remembered.
-    pub(crate) fn scan(&self, memory: &Cache<A>, line: &[u8], from: usize) -> Scan
+    pub(crate) fn scan(&self, cache: &Cache<A>, line: &[u8], from: usize) -> Scan
         requires built { IsBuilt self.now }
-        requires memory { IsMemoryOf (nfa self.now) (remembered memory.now) }
+        requires cache { IsDfaOf (nfa self.now) (dfa cache.now) }
         requires bytes { 1 ≤ length line.now }
         requires from_in { from ≤ length line.now }
         ensures { Scanned (nfa self.now) line.now from result }
     {
-        if memory.count == 0 {
+        if cache.count == 0 {
             return Scan::Unknown(from);
         }
-        let first = if from == 0 { 256 } else { 0 };
-        let (mut state, mut place, mut start) = self.follow_rows(
-            memory,
-            line,
-            from,
-            first,
-            from.saturating_sub(1),
-        );
+        let first = if from == 0 { FIRST } else { EMPTY };
+        let LineWalk {
+            mut state,
+            mut place,
+            mut start,
+        } = self.follow_rows(cache, line, from, first, from.saturating_sub(1));
         while place + 1 < line.len() {
-            let next = memory.steps[state as usize + line[place] as usize];
+            let next = cache.steps[state as usize + line[place] as usize];
             if next == HIT {
                 return Scan::Known(start);
             }
             if next == DEAD {
                 return Scan::NoHit;
             }
-            if next < 256 {
+            if next < STRIDE {
                 return Scan::Unknown(start);
             }
             state = next;
             place += 1;
-            if memory.fresh[(next / 256) as usize] {
+            if cache.flags[(next / STRIDE) as usize] {
                 start = place;
             }
         }
-        match self.recall_end(memory, state, line[place]) {
+        match self.recall_end(cache, state, line[place]) {
             Some(false) => Scan::NoHit,
             Some(true) => Scan::Known(start),
             None => Scan::Unknown(start),
@@ -126,16 +137,16 @@ impl<A: Allocator> Automaton<A> {
     }
 
     /// Learns more of a line that isn't empty, from a place on, as far as the visits allow.
-    fn study(&self, sets: &mut StateSets<A>, memory: &mut Cache<A>, line: &[u8], from: usize)
+    fn study(&self, sets: &mut StateSets<A>, cache: &mut Cache<A>, line: &[u8], from: usize)
         requires built { IsBuilt self.now }
         requires room { HaveRoom (buffers sets.old) (length self.now.states.items) }
-        requires memory { IsMemoryOf (nfa self.now) (remembered memory.old) }
+        requires cache { IsDfaOf (nfa self.now) (dfa cache.old) }
         requires bytes { 1 ≤ length line.now }
         requires short { length line.now ≤ 2 ^ 30 }
         requires from_in { from ≤ length line.now }
         requires visits { sets.old.visits ≤ (length line.now + 1) * length self.now.states.items }
         ensures room { HaveRoom (buffers sets.new) (length self.now.states.items) }
-        ensures memory { IsMemoryOf (nfa self.now) (remembered memory.new) }
+        ensures cache { IsDfaOf (nfa self.now) (dfa cache.new) }
         ensures visits { sets.new.visits ≤ (length line.now + 1) * length self.now.states.items }
         ensures told { Tells sets.old sets.new }
     {
@@ -144,32 +155,32 @@ impl<A: Allocator> Automaton<A> {
         if sets.visits > most {
             return;
         }
-        if !self.first(sets, memory) {
+        if !self.first(sets, cache) {
             return;
         }
-        let mut state = if from == 0 { 256 } else { 0 };
+        let mut state = if from == 0 { FIRST } else { EMPTY };
         let mut place = from.saturating_sub(1);
         loop {
-            let (at, here) = self.walk(memory, line, place, state);
+            let (at, here) = self.walk(cache, line, place, state);
             if sets.visits > most {
                 return;
             }
             if here + 1 == line.len() {
-                self.finish(sets, memory, at, line[here]);
+                self.finish(sets, cache, at, line[here]);
                 return;
             }
-            if memory.steps[at as usize + line[here] as usize] == LOST {
-                memory.lose(line.len() - here);
+            if cache.steps[at as usize + line[here] as usize] == LOST {
+                cache.lose(line.len() - here);
                 return;
             }
-            match self.learn(sets, memory, (at / 256) as usize, line[here]) {
+            match self.learn(sets, cache, (at / STRIDE) as usize, line[here]) {
                 Next::Row(next) => {
                     state = next;
                     place = here + 1;
                 }
                 Next::Hit | Next::Dead => return,
                 Next::Lost => {
-                    memory.lose(line.len() - here);
+                    cache.lose(line.len() - here);
                     return;
                 }
             }
@@ -186,7 +197,7 @@ impl<A: Allocator> Automaton<A> {
             let state = self.seeds[k];
             if let State::Read(set, to) = &self.states[state as usize] {
                 if set.contains(byte) {
-                    if *to != 0 {
+                    if *to != ACCEPT {
                         return false;
                     }
                     some = true;
@@ -214,25 +225,25 @@ impl<A: Allocator> Automaton<A> {
     fn find_behind(
         &self,
         sets: &mut StateSets<A>,
-        memory: &mut Cache<A>,
+        cache: &mut Cache<A>,
         anchored: &mut Option<Cache<A>>,
         line: &[u8],
         start: usize,
     ) -> Option<(usize, usize)>
         requires built { IsBuilt self.now }
         requires room { HaveRoom (buffers sets.old) (length self.now.states.items) }
-        requires anchored { RemembersAnchored anchored.old (nfa self.now) }
+        requires anchored { CachesAnchoredDfaOf anchored.old (nfa self.now) }
         requires short { length line.now ≤ 2 ^ 30 }
         requires start_in { start ≤ length line.now }
         ensures room { HaveRoom (buffers sets.new) (length self.now.states.items) }
-        ensures same { remembered memory.new ≡ remembered memory.old }
-        ensures anchored { RemembersAnchored anchored.new (nfa self.now) }
+        ensures same { dfa cache.new ≡ dfa cache.old }
+        ensures anchored { CachesAnchoredDfaOf anchored.new (nfa self.now) }
         ensures best { IsBestFrom (nfa self.now) line.now start result }
         ensures visits { sets.new.visits ≤ (length line.now + 1) * length self.now.states.items }
         ensures told { added sets.new ≡ added sets.old + sets.new.visits }
     {
         match anchored {
-            Some(anchored) => self.find_from(sets, memory, anchored, line, start),
+            Some(anchored) => self.find_from(sets, cache, anchored, line, start),
             None => self.find(sets, line, start),
         }
     }
@@ -241,26 +252,26 @@ impl<A: Allocator> Automaton<A> {
     fn find_by(
         &self,
         sets: &mut StateSets<A>,
-        memory: &mut Cache<A>,
+        cache: &mut Cache<A>,
         anchored: &mut Option<Cache<A>>,
         line: &[u8],
         from: usize,
     ) -> Option<(usize, usize)>
         requires built { IsBuilt self.now }
         requires room { HaveRoom (buffers sets.old) (length self.now.states.items) }
-        requires memory { IsMemoryOf (nfa self.now) (remembered memory.old) }
-        requires anchored { RemembersAnchored anchored.old (nfa self.now) }
+        requires cache { IsDfaOf (nfa self.now) (dfa cache.old) }
+        requires anchored { CachesAnchoredDfaOf anchored.old (nfa self.now) }
         requires bytes { 1 ≤ length line.now }
         requires short { length line.now ≤ 2 ^ 30 }
         requires from_in { from ≤ length line.now }
         ensures room { HaveRoom (buffers sets.new) (length self.now.states.items) }
-        ensures memory { IsMemoryOf (nfa self.now) (remembered memory.new) }
-        ensures anchored { RemembersAnchored anchored.new (nfa self.now) }
+        ensures cache { IsDfaOf (nfa self.now) (dfa cache.new) }
+        ensures anchored { CachesAnchoredDfaOf anchored.new (nfa self.now) }
         ensures best { IsBestFrom (nfa self.now) line.now from result }
         ensures visits { sets.new.visits ≤ (length line.now + 1) * length self.now.states.items }
         ensures told { added sets.new ≡ added sets.old + sets.new.visits }
     {
-        match self.scan(memory, line, from) {
+        match self.scan(cache, line, from) {
             Scan::NoHit => {
                 sets.visits = 0;
                 None
@@ -269,10 +280,10 @@ impl<A: Allocator> Automaton<A> {
                 sets.visits = 0;
                 Some((start, start + 1))
             }
-            Scan::Known(start) => self.find_behind(sets, memory, anchored, line, start),
+            Scan::Known(start) => self.find_behind(sets, cache, anchored, line, start),
             Scan::Unknown(start) => {
-                let best = self.find_behind(sets, memory, anchored, line, start);
-                self.study(sets, memory, line, from);
+                let best = self.find_behind(sets, cache, anchored, line, start);
+                self.study(sets, cache, line, from);
                 best
             }
         }
@@ -282,28 +293,28 @@ impl<A: Allocator> Automaton<A> {
     pub(crate) fn next_part(
         &self,
         sets: &mut StateSets<A>,
-        memory: &mut Option<Cache<A>>,
+        cache: &mut Option<Cache<A>>,
         anchored: &mut Option<Cache<A>>,
         line: &[u8],
         from: usize,
     ) -> Option<(usize, usize)>
         requires built { IsBuilt self.now }
         requires room { HaveRoom (buffers sets.old) (length self.now.states.items) }
-        requires memory { Remembers memory.old (nfa self.now) }
-        requires anchored { RemembersAnchored anchored.old (nfa self.now) }
+        requires cache { CachesDfaOf cache.old (nfa self.now) }
+        requires anchored { CachesAnchoredDfaOf anchored.old (nfa self.now) }
         requires short { length line.now ≤ 2 ^ 30 }
         requires from_in { from ≤ length line.now }
         ensures room { HaveRoom (buffers sets.new) (length self.now.states.items) }
-        ensures memory { Remembers memory.new (nfa self.now) }
-        ensures anchored { RemembersAnchored anchored.new (nfa self.now) }
+        ensures cache { CachesDfaOf cache.new (nfa self.now) }
+        ensures anchored { CachesAnchoredDfaOf anchored.new (nfa self.now) }
         ensures next { (patterns : List Pattern) → Agrees (nfa self.now) patterns
             → MatchOption result (HasNoNext patterns self.now.bounds line.now from)
             (λ b. IsNext patterns self.now.bounds line.now from b.0 b.1) }
         ensures visits { sets.new.visits ≤ (length line.now + 1) * length self.now.states.items }
         ensures told { added sets.new ≡ added sets.old + sets.new.visits }
     {
-        match memory {
-            Some(memory) if !line.is_empty() => self.find_by(sets, memory, anchored, line, from),
+        match cache {
+            Some(cache) if !line.is_empty() => self.find_by(sets, cache, anchored, line, from),
             _ => self.find(sets, line, from),
         }
     }

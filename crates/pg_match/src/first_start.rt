@@ -1,16 +1,16 @@
 //! The best span from a place on, first by the runs that begin there alone.
 ghost use Rattle.std.specs.Prelude.{◌≡◌, ◌+◌, ◌-◌, ◌*◌, ◌^◌, ◌<◌, ◌≤◌, length, IfNone, IfSome, None};
-ghost use Rattle.pg_match.specs.Anchored.{IsAnchoredMemoryOf, IsLongestFrom, IsAnchoredRun, StandsFrom, IsLastEnd};
+ghost use Rattle.pg_match.specs.Anchored.{IsAnchoredDfaOf, IsLongestFrom, IsAnchoredRun, StandsFrom, IsLastEnd};
 ghost use Rattle.pg_match.specs.Anchored.{IsSecondRow, spared};
 ghost use Rattle.pg_pattern.specs.Bounds.{MayBegin};
 ghost use Rattle.pg_match.specs.Searches.{Alive, IsBestFrom, start_bound};
 ghost use Rattle.pg_match.specs.StateSets.{HaveRoom};
 ghost use Rattle.pg_match.specs.Steps.{Has};
-ghost use Rattle.pg_match.specs.Views.{nfa, members, buffers, remembered, Tells, IsBuilt};
+ghost use Rattle.pg_match.specs.Views.{nfa, members, buffers, dfa, Tells, IsBuilt};
 
 use crate::automaton::Automaton;
-use crate::dfa_anchored::{LONG, start_row};
-use crate::dfa_cache::Cache;
+use crate::dfa_anchored::{LONG, StartWalk, start_row};
+use crate::dfa_cache::{Cache, STRIDE};
 use crate::search::StateSets;
 use crate::single_start::AnchoredRun;
 use std::alloc::Allocator;
@@ -18,19 +18,19 @@ use std::alloc::Allocator;
 impl<A: Allocator> Automaton<A> {
     /// The row of the runs that began at a line's first place, behind the line's first byte, where a search begins
     /// there and the row is known. The line goes on behind the byte.
-    fn second_row(&self, memory: &Cache<A>, line: &[u8], from: usize) -> Option<usize>
+    fn second_row(&self, cache: &Cache<A>, line: &[u8], from: usize) -> Option<usize>
         requires built { IsBuilt self.now }
-        requires memory { IsAnchoredMemoryOf (nfa self.now) (remembered memory.now) }
-        ensures { IfSome result (IsSecondRow (nfa self.now) (remembered memory.now) line.now from) }
+        requires cache { IsAnchoredDfaOf (nfa self.now) (dfa cache.now) }
+        ensures { IfSome result (IsSecondRow (nfa self.now) (dfa cache.now) line.now from) }
     {
-        if from > 0 || line.len() < 2 || memory.count < 2 {
+        if from > 0 || line.len() < 2 || cache.count < 2 {
             return None;
         }
-        let next = memory.steps[256 * start_row(0) + line[0] as usize];
-        if next < 256 {
+        let next = cache.steps[STRIDE as usize * start_row(0) + line[0] as usize];
+        if next < STRIDE {
             return None;
         }
-        Some((next / 256) as usize)
+        Some((next / STRIDE) as usize)
     }
 
     /// Follows the runs from a start, where a span may begin, by states, from the set of a place on up to which none of
@@ -86,24 +86,24 @@ impl<A: Allocator> Automaton<A> {
     fn finish_first(
         &self,
         sets: &mut StateSets<A>,
-        memory: &mut Cache<A>,
+        cache: &mut Cache<A>,
         line: &[u8],
         run: AnchoredRun,
     ) -> Option<usize>
         requires built { IsBuilt self.now }
         requires room { HaveRoom (buffers sets.old) (length self.now.states.items) }
-        requires memory { IsAnchoredMemoryOf (nfa self.now) (remembered memory.old) }
+        requires cache { IsAnchoredDfaOf (nfa self.now) (dfa cache.old) }
         requires short { length line.now ≤ 2 ^ 30 }
         requires run { IsAnchoredRun (nfa self.now) line.now run.start run.place run.last
             (Has (members sets.old.current)) }
         requires visits { sets.old.visits ≤ run.place * length self.now.states.items }
         ensures room { HaveRoom (buffers sets.new) (length self.now.states.items) }
-        ensures memory { IsAnchoredMemoryOf (nfa self.now) (remembered memory.new) }
+        ensures cache { IsAnchoredDfaOf (nfa self.now) (dfa cache.new) }
         ensures longest { IfSome result (IsLongestFrom (nfa self.now) line.now run.start) }
         ensures visits { IfSome result
             (λ _. sets.new.visits ≤ (length line.now + 1) * length self.now.states.items) }
         ensures none { IfNone result ((sets.new.visits ≡ sets.old.visits)
-            × (remembered memory.new ≡ remembered memory.old)) }
+            × (dfa cache.new ≡ dfa cache.old)) }
         ensures told { Tells sets.old sets.new }
     {
         let size = self.states.len() as u128;
@@ -113,7 +113,7 @@ impl<A: Allocator> Automaton<A> {
         if sets.visits + 4 * size > run.place as u128 * size {
             return None;
         }
-        Some(self.finish_anchored(sets, memory, line, run))
+        Some(self.finish_anchored(sets, cache, line, run))
     }
 
     /// Where the longest span from a start ends, by the runs that begin there alone: by what is remembered of them, and
@@ -123,40 +123,40 @@ impl<A: Allocator> Automaton<A> {
     fn find_first(
         &self,
         sets: &mut StateSets<A>,
-        memory: &mut Cache<A>,
+        cache: &mut Cache<A>,
         line: &[u8],
         start: usize,
     ) -> Option<usize>
         requires built { IsBuilt self.now }
         requires room { HaveRoom (buffers sets.old) (length self.now.states.items) }
-        requires memory { IsAnchoredMemoryOf (nfa self.now) (remembered memory.old) }
+        requires cache { IsAnchoredDfaOf (nfa self.now) (dfa cache.old) }
         requires short { length line.now ≤ 2 ^ 30 }
         requires start_in { start ≤ length line.now }
         requires visits { sets.old.visits ≤ start * length self.now.states.items }
         ensures room { HaveRoom (buffers sets.new) (length self.now.states.items) }
-        ensures memory { IsAnchoredMemoryOf (nfa self.now) (remembered memory.new) }
-        ensures same { IfNone result (remembered memory.new ≡ remembered memory.old) }
+        ensures cache { IsAnchoredDfaOf (nfa self.now) (dfa cache.new) }
+        ensures same { IfNone result (dfa cache.new ≡ dfa cache.old) }
         ensures longest { IfSome result (IsLongestFrom (nfa self.now) line.now start) }
         ensures visits { IfSome result
             (λ _. sets.new.visits ≤ (length line.now + 1) * length self.now.states.items) }
         ensures spared { IfNone result (sets.new.visits ≤ spared start * length self.now.states.items) }
         ensures told { Tells sets.old sets.new }
     {
-        if start >= line.len() || memory.count < 2 {
+        if start >= line.len() || cache.count < 2 {
             return None;
         }
         if !self.bounds.may_begin(line, start) {
             return None;
         }
-        let (state, place, last) = self.follow_start(memory, line, start);
+        let StartWalk { state, place, last } = self.follow_start(cache, line, start);
         if let Some(last) = last {
             let run = AnchoredRun { start, place, last };
-            return Some(self.finish_by_cache(sets, memory, line, (state / 256) as usize, run));
+            return Some(self.finish_by_cache(sets, cache, line, (state / STRIDE) as usize, run));
         }
-        memory.load((state / 256) as usize, &mut sets.current);
+        cache.load((state / STRIDE) as usize, &mut sets.current);
         let most = (start.max(1) as u128 + 1) * self.states.len() as u128;
         let run = self.follow_until_end(sets, line, start, place, most)?;
-        self.finish_first(sets, memory, line, run)
+        self.finish_first(sets, cache, line, run)
     }
 
     /// Begins a search at a place, and answers whose place the set is: the place's own, or that behind a line's first
@@ -165,17 +165,17 @@ impl<A: Allocator> Automaton<A> {
     fn enter_known(
         &self,
         sets: &mut StateSets<A>,
-        memory: &Cache<A>,
+        cache: &Cache<A>,
         line: &[u8],
         from: usize,
         second: Option<usize>,
     ) -> usize
         requires built { IsBuilt self.now }
         requires room { HaveRoom (buffers sets.old) (length self.now.states.items) }
-        requires memory { IsAnchoredMemoryOf (nfa self.now) (remembered memory.now) }
+        requires cache { IsAnchoredDfaOf (nfa self.now) (dfa cache.now) }
         requires short { length line.now ≤ 2 ^ 30 }
         requires from_in { from ≤ length line.now }
-        requires second { IfSome second (IsSecondRow (nfa self.now) (remembered memory.now) line.now from) }
+        requires second { IfSome second (IsSecondRow (nfa self.now) (dfa cache.now) line.now from) }
         requires spared { sets.old.visits ≤ spared from * length self.now.states.items }
         requires visits { second ≡ None → from ≡ 0 → sets.old.visits ≡ 0 }
         ensures alive { Alive self.now.states.items line.now self.now.start (MayBegin self.now.bounds line.now) from
@@ -187,7 +187,7 @@ impl<A: Allocator> Automaton<A> {
     {
         match second {
             Some(row) => {
-                memory.load(row, &mut sets.current);
+                cache.load(row, &mut sets.current);
                 1
             }
             None => {
@@ -203,29 +203,29 @@ impl<A: Allocator> Automaton<A> {
     pub(crate) fn find_long(
         &self,
         sets: &mut StateSets<A>,
-        memory: &mut Cache<A>,
+        cache: &mut Cache<A>,
         line: &[u8],
         from: usize,
     ) -> Option<(usize, usize)>
         requires built { IsBuilt self.now }
         requires room { HaveRoom (buffers sets.old) (length self.now.states.items) }
-        requires memory { IsAnchoredMemoryOf (nfa self.now) (remembered memory.old) }
+        requires cache { IsAnchoredDfaOf (nfa self.now) (dfa cache.old) }
         requires short { length line.now ≤ 2 ^ 30 }
         requires from_in { from ≤ length line.now }
         requires visits { sets.old.visits ≤ from * length self.now.states.items }
         ensures room { HaveRoom (buffers sets.new) (length self.now.states.items) }
-        ensures memory { IsAnchoredMemoryOf (nfa self.now) (remembered memory.new) }
+        ensures cache { IsAnchoredDfaOf (nfa self.now) (dfa cache.new) }
         ensures best { IsBestFrom (nfa self.now) line.now from result }
         ensures visits { sets.new.visits ≤ (length line.now + 1) * length self.now.states.items }
         ensures told { Tells sets.old sets.new }
     {
-        let second = self.second_row(memory, line, from);
+        let second = self.second_row(cache, line, from);
         if from > 0 || second.is_some() {
-            if let Some(end) = self.find_first(sets, memory, line, from) {
+            if let Some(end) = self.find_first(sets, cache, line, from) {
                 return Some((from, end));
             }
         }
-        let at = self.enter_known(sets, memory, line, from, second);
+        let at = self.enter_known(sets, cache, line, from, second);
         let far = line.len().saturating_sub(LONG);
         let (best, left) = self.find_until(sets, line, from, at, far);
         let Some(place) = left else {
@@ -233,6 +233,6 @@ impl<A: Allocator> Automaton<A> {
         };
         let (start, last) = best?;
         let run = AnchoredRun { start, place, last };
-        Some((start, self.finish_anchored(sets, memory, line, run)))
+        Some((start, self.finish_anchored(sets, cache, line, run)))
     }
 }

@@ -7,8 +7,8 @@ ghost use Rattle.pg_match.specs.Sizes.{list_size};
 ghost use Rattle.pg_pattern.specs.Hits.{HasHit, HasNoNext, IsNext};
 ghost use Rattle.pg_match.specs.Lines.{TellsLine};
 ghost use Rattle.pg_match.specs.Machines.{IsMachineOf, IsOfSome, Fits};
-ghost use Rattle.pg_match.specs.Memories.{IsBlank};
-ghost use Rattle.pg_match.specs.Views.{remembered};
+ghost use Rattle.pg_match.specs.Dfas.{IsBlank};
+ghost use Rattle.pg_match.specs.Views.{dfa};
 ghost use Rattle.pg_pattern.specs.declared.bounds.Bounds.{Bounds};
 
 use crate::automaton::Automaton;
@@ -58,9 +58,9 @@ impl<A: Allocator> Model for Machine<A> {
 pub struct Scratch<A: Allocator = Global> {
     automaton: Arc<Automaton<A>, A>,
     sets: StateSets<A>,
-    /// None where the memory for it was refused. Searches are slower then.
-    memory: Option<Cache<A>>,
-    /// What the runs from one place lead to. None where it wasn't asked for, or the memory for it was refused.
+    /// The DFA cache. None where the memory for it was refused. Searches are slower then.
+    cache: Option<Cache<A>>,
+    /// The DFA cache of the runs from one place. None where it wasn't asked for, or the memory for it was refused.
     anchored: Option<Cache<A>>,
     /// Whether an empty line has a hit, once one was searched.
     empty: Option<bool>,
@@ -71,7 +71,7 @@ impl<A: Allocator> Drop for Scratch<A> {
         let Scratch {
             automaton: _,
             sets: _,
-            memory: _,
+            cache: _,
             anchored: _,
             empty: _,
         } = self;
@@ -83,7 +83,7 @@ impl<A: Allocator> Model for Scratch<A> {
     ghost use Rattle.std.specs.Arc.{arc_value};
     ghost use Rattle.pg_match.specs.Machines.{Room, TellsEmpty};
     ghost use Rattle.pg_match.specs.StateSets.{HaveRoom};
-    ghost use Rattle.pg_match.specs.Views.{nfa, buffers, added, Remembers, RemembersAnchored};
+    ghost use Rattle.pg_match.specs.Views.{nfa, buffers, added, CachesDfaOf, CachesAnchoredDfaOf};
 
     ghost Value = { Room };
 
@@ -94,8 +94,8 @@ impl<A: Allocator> Model for Scratch<A> {
     } };
 
     ghost invariant = { λ s. HaveRoom (buffers s.sets) (length (nfa (arc_value s.automaton)).states)
-        × Remembers s.memory (nfa (arc_value s.automaton))
-        × RemembersAnchored s.anchored (nfa (arc_value s.automaton))
+        × CachesDfaOf s.cache (nfa (arc_value s.automaton))
+        × CachesAnchoredDfaOf s.anchored (nfa (arc_value s.automaton))
         × TellsEmpty (nfa (arc_value s.automaton)) s.empty };
 }
 
@@ -150,7 +150,7 @@ impl<A: Allocator> Machine<A> {
             return self.selects_empty(scratch);
         }
         let automaton: &Automaton<A> = &self.automaton;
-        automaton.selects(&mut scratch.sets, &mut scratch.memory, line)
+        automaton.selects(&mut scratch.sets, &mut scratch.cache, line)
     }
 
     /// Whether an empty line has a hit. It is searched once.
@@ -169,7 +169,7 @@ impl<A: Allocator> Machine<A> {
             scratch.sets.visits = 0;
             return answer;
         }
-        let answer = automaton.selects(&mut scratch.sets, &mut scratch.memory, b"");
+        let answer = automaton.selects(&mut scratch.sets, &mut scratch.cache, b"");
         scratch.empty = Some(answer);
         answer
     }
@@ -188,8 +188,8 @@ impl<A: Allocator> Machine<A> {
             let has_hit = scratch.empty?;
             return Some(KnownLine { has_hit, read: 0 });
         }
-        match &scratch.memory {
-            Some(memory) if automaton.some => automaton.recall_line(memory, end, bytes),
+        match &scratch.cache {
+            Some(cache) if automaton.some => automaton.recall_line(cache, end, bytes),
             _ => None,
         }
     }
@@ -218,7 +218,7 @@ impl<A: Allocator> Machine<A> {
     {
         let automaton: &Automaton<A> = &self.automaton;
         let sets = &mut scratch.sets;
-        automaton.next_part(sets, &mut scratch.memory, &mut scratch.anchored, line, from)
+        automaton.next_part(sets, &mut scratch.cache, &mut scratch.anchored, line, from)
     }
 }
 
@@ -237,9 +237,10 @@ fn share<A: Allocator + Copy>(
     Ok(Machine { automaton })
 }
 
-/// A table for automata with so many states, if it is wanted and there is memory.
-fn table<A: Allocator + Copy>(alloc: A, states: usize, is_wanted: bool) -> Option<Cache<A>>
-    ensures { IfSome result (λ memory. IsBlank (remembered memory)) }
+/// The cache of the runs from one place, beside another one, for automata with so many states, if it is wanted and
+/// there is memory.
+fn anchored_cache<A: Allocator + Copy>(alloc: A, states: usize, is_wanted: bool) -> Option<Cache<A>>
+    ensures { IfSome result (λ cache. IsBlank (dfa cache)) }
 {
     if is_wanted {
         Cache::new(alloc, states, true).ok()
@@ -253,8 +254,8 @@ impl<A: Allocator> Scratch<A> {
     ///
     /// # Errors
     ///
-    /// `AllocError` where memory for the sets of states was refused. Where only that for the table of remembered sets
-    /// is, searches are slower and answer the same.
+    /// `AllocError` where memory for the sets of states was refused. Where only that for the DFA cache is, searches are
+    /// slower and answer the same.
     pub fn new(alloc: A, machine: &Machine<A>) -> Result<Scratch<A>, AllocError>
     where
         A: Copy,
@@ -265,7 +266,7 @@ impl<A: Allocator> Scratch<A> {
         Scratch::prepare(alloc, machine, false)
     }
 
-    /// The same where matched parts are asked for, line after line: what the runs that begin at one place lead to is
+    /// Room for searches that ask for matched parts, line after line: what the runs that begin at one place lead to is
     /// remembered too. That takes more memory, and searches answer the same.
     ///
     /// # Errors
@@ -281,7 +282,7 @@ impl<A: Allocator> Scratch<A> {
         Scratch::prepare(alloc, machine, true)
     }
 
-    /// Room for searches with a machine, with or without a table for matched parts.
+    /// Room for searches with a machine, with or without a cache for matched parts.
     fn prepare(alloc: A, machine: &Machine<A>, with_parts: bool) -> Result<Scratch<A>, AllocError>
     where
         A: Copy,
@@ -292,12 +293,12 @@ impl<A: Allocator> Scratch<A> {
         let automaton = Arc::try_clone(&machine.automaton)?;
         let states: &Automaton<A> = &machine.automaton;
         let sets = StateSets::new(alloc, states.states.len())?;
-        let memory = Cache::new(alloc, states.states.len(), with_parts).ok();
-        let anchored = table(alloc, states.states.len(), with_parts);
+        let cache = Cache::new(alloc, states.states.len(), with_parts).ok();
+        let anchored = anchored_cache(alloc, states.states.len(), with_parts);
         Ok(Scratch {
             automaton,
             sets,
-            memory,
+            cache,
             anchored,
             empty: None,
         })
@@ -312,7 +313,7 @@ impl<A: Allocator> Scratch<A> {
         automaton.is_same(&machine.automaton)
     }
 
-    /// How often the last search added a state to the set of a place. A set whose step is remembered takes none.
+    /// How often the last search added a state to the set of a place. A step that is in the cache takes none.
     pub fn visits(&self) -> u128
         ensures { result ≡ self.now.visits }
     {

@@ -11,26 +11,35 @@ ghost use Rattle.pg_match.specs.Views.{nfa, members, buffers, Tells, IsBuilt};
 use crate::automaton::Automaton;
 use crate::search::StateSets;
 use crate::sparse_set::StateSet;
-use crate::state::State;
+use crate::state::{ACCEPT, State};
 use pg_pattern::{Bounds, is_word_byte};
 use std::alloc::Allocator;
 use std::mem;
 
-/// Adds the states that a state leads to without reading a byte.
-#[inline(always)]
-fn spread<A: Allocator>(
-    states: &[State],
-    set: &mut StateSet<A>,
-    state: u32,
+/// Whether a place is the first one of its line, and whether it is the last one, where the line ends. That of an empty
+/// line is both.
+#[derive(Clone, Copy)]
+struct LineEdges {
     first: bool,
     last: bool,
-)
+}
+
+/// A place inside a line.
+const INSIDE: LineEdges = LineEdges {
+    first: false,
+    last: false,
+};
+
+/// Adds the states that a state leads to without reading a byte.
+#[inline(always)]
+fn spread<A: Allocator>(states: &[State], set: &mut StateSet<A>, state: u32, edges: LineEdges)
     requires tidy { IsTidy states.now }
     requires good { IsGood (members set.old) }
     requires size { length set.old.marks.items ≡ length states.now }
     requires within { state < length states.now }
-    ensures { Spread states.now first last (members set.old) (members set.new) state }
+    ensures { Spread states.now edges.first edges.last (members set.old) (members set.new) state }
 {
+    let LineEdges { first, last } = edges;
     match states[state as usize] {
         State::Jump(next) => set.insert(next, 1),
         State::AtBegin(next) => {
@@ -52,16 +61,16 @@ fn spread<A: Allocator>(
 }
 
 /// Adds all that the states of a set lead to without reading a byte.
-fn close<A: Allocator>(states: &[State], set: &mut StateSet<A>, first: bool, last: bool)
+fn close<A: Allocator>(states: &[State], set: &mut StateSet<A>, edges: LineEdges)
     requires tidy { IsTidy states.now }
     requires good { IsGood (members set.old) }
     requires size { length set.old.marks.items ≡ length states.now }
-    ensures { Closed states.now first last (members set.old) (members set.new) }
+    ensures { Closed states.now edges.first edges.last (members set.old) (members set.new) }
 {
     let mut next = 0;
     while next < set.len {
         let from = set.order[next];
-        spread(states, set, from, first, last);
+        spread(states, set, from, edges);
         next += 1;
     }
 }
@@ -123,7 +132,8 @@ impl<A: Allocator> Automaton<A> {
     {
         sets.current.clear();
         sets.current.insert(self.start, 1);
-        close(&self.states, &mut sets.current, first, false);
+        let edges = LineEdges { first, ..INSIDE };
+        close(&self.states, &mut sets.current, edges);
         sets.visits += sets.current.len as u128;
     }
 
@@ -145,7 +155,7 @@ impl<A: Allocator> Automaton<A> {
         if begins_after(self.bounds, byte) {
             sets.current.insert(self.start, 1);
         }
-        close(&self.states, &mut sets.current, false, false);
+        close(&self.states, &mut sets.current, INSIDE);
         sets.visits += sets.current.len as u128;
         is_fresh
     }
@@ -156,7 +166,7 @@ impl<A: Allocator> Automaton<A> {
         requires size { length set.now.marks.items ≡ length self.now.states.items }
         ensures { IsTrue result ↔ HitBefore (nfa self.now) byte (Has (members set.now)) }
     {
-        ends_before(self.bounds, byte) && set.marks[0] != 0
+        ends_before(self.bounds, byte) && set.marks[ACCEPT as usize] != 0
     }
 
     /// Whether a match ends where the line does. The set gets what needs the line's end.
@@ -170,9 +180,13 @@ impl<A: Allocator> Automaton<A> {
         ensures told { Tells sets.old sets.new }
     {
         let before = sets.current.len;
-        close(&self.states, &mut sets.current, is_empty, true);
+        let edges = LineEdges {
+            first: is_empty,
+            last: true,
+        };
+        close(&self.states, &mut sets.current, edges);
         sets.visits += (sets.current.len - before) as u128;
-        sets.current.marks[0] != 0
+        sets.current.marks[ACCEPT as usize] != 0
     }
 
     /// Adds the states that a byte leads to from the seeds.
@@ -206,7 +220,7 @@ impl<A: Allocator> Automaton<A> {
             self.move_seeds(&mut sets.next, byte);
         }
         mem::swap(&mut sets.current, &mut sets.next);
-        close(&self.states, &mut sets.current, false, false);
+        close(&self.states, &mut sets.current, INSIDE);
         sets.visits += sets.current.len as u128;
     }
 
@@ -218,7 +232,8 @@ impl<A: Allocator> Automaton<A> {
         ensures { IsTrue result ↔ HitBefore (nfa self.now) byte
             (WithSeeds self.now.seeds.items (IsTrue begins) (Has (members set.now))) }
     {
-        ends_before(self.bounds, byte) && (set.marks[0] != 0 || begins && self.starts.accepts)
+        ends_before(self.bounds, byte)
+            && (set.marks[ACCEPT as usize] != 0 || begins && self.starts.accepts)
     }
 
     /// Whether a match ends where a line does that isn't empty, of the runs in a set or of one that starts there, if a
@@ -241,7 +256,7 @@ impl<A: Allocator> Automaton<A> {
         self.hits_at_end(sets, false)
     }
 
-    /// Goes on from the set of a place behind the first byte, but for starts there, without what is remembered. Answers
+    /// Goes on from the set of a place behind the first byte, but for starts there, without the cache. Answers
     /// whether a match ends, or nothing where no run is left, and the place that it came to. It looks whether a run is
     /// left only behind the byte at `lost`.
     pub(crate) fn search_on(
@@ -283,7 +298,7 @@ impl<A: Allocator> Automaton<A> {
         (Some(self.hits_behind(sets, begins)), line.len())
     }
 
-    /// Goes on from the set of a line's first place without what is remembered. The line isn't empty.
+    /// Goes on from the set of a line's first place without the cache. The line isn't empty.
     pub(crate) fn search_first(&self, sets: &mut StateSets<A>, line: &[u8]) -> bool
         requires built { IsBuilt self.now }
         requires room { HaveRoom (buffers sets.old) (length self.now.states.items) }
@@ -304,7 +319,7 @@ impl<A: Allocator> Automaton<A> {
         self.search_on(sets, line, 1, line.len()).0.unwrap()
     }
 
-    /// Whether some span of the line is a hit, without what is remembered.
+    /// Whether some span of the line is a hit, without the cache.
     pub(crate) fn search(&self, sets: &mut StateSets<A>, line: &[u8]) -> bool
         requires built { IsBuilt self.now }
         requires room { HaveRoom (buffers sets.old) (length self.now.states.items) }

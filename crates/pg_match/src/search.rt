@@ -13,6 +13,7 @@ ghost use Rattle.pg_match.specs.Views.{nfa, members, buffers, added, Tells, IsBu
 use crate::automaton::Automaton;
 use crate::closure::{reach, step};
 use crate::sparse_set::StateSet;
+use crate::state::ACCEPT;
 use std::alloc::{AllocError, Allocator, Global};
 use std::mem;
 
@@ -52,7 +53,8 @@ impl<A: Allocator> StateSets<A> {
     }
 }
 
-/// The best span, where a match ends at `place` whose start, plus one, is `mark`, or none does and `mark` is 0.
+/// The better of the best span so far and the match that ends at a place. `mark` is one more than where that match
+/// begins, and 0 where none ends there. A match without a byte is no span.
 #[inline(always)]
 fn judge(place: usize, mark: u32, best: Option<(usize, usize)>) -> Option<(usize, usize)>
     ensures { result ≡ judged place mark best }
@@ -119,7 +121,7 @@ impl<A: Allocator> Automaton<A> {
         ensures { result ≡ ending (nfa self.now) line.now place (members set.now) }
     {
         if self.bounds.may_end(line, place) {
-            set.marks[0]
+            set.marks[ACCEPT as usize]
         } else {
             0
         }

@@ -3,6 +3,7 @@ ghost use Rattle.std.specs.Prelude.{◌≡◌, ◌<◌, ℕ, IfOk, IsTrue, lengt
 ghost use Rattle.pg_match.specs.Closures.{IsOrdered};
 ghost use Rattle.pg_match.specs.StateSets.{IsGood, Inserted, Counted, IsEmpty, mark};
 
+use crate::state::ACCEPT;
 use pg_base::History;
 use std::alloc::{AllocError, Allocator, Global};
 
@@ -77,7 +78,7 @@ impl<A: Allocator> StateSet<A> {
         requires { IsGood (members self.now) }
         ensures { IsTrue result → (q : ℕ) → 0 < mark (members self.now) q → q ≡ 0 }
     {
-        self.len == 0 || self.len == 1 && self.order[0] == 0
+        self.len == 0 || self.len == 1 && self.order[0] == ACCEPT
     }
 
     /// Whether all states have this mark. They were added in the order of their marks.
@@ -112,7 +113,7 @@ impl<A: Allocator> StateSet<A> {
         }
     }
 
-    /// Fetches a state of a set that is remembered, unless it is there. It is no visit.
+    /// Fetches a state of a set in the cache, unless it is there. It is no visit.
     #[inline(always)]
     pub fn fetch(&mut self, state: u32)
         requires good { IsGood (members self.old) }

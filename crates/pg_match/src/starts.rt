@@ -3,7 +3,7 @@ ghost use Rattle.std.specs.Prelude.{◌≡◌, ℕ, ◌+◌, ◌<◌, ◌≤◌,
 ghost use Rattle.pg_bytes.specs.ByteSets.{bytes};
 ghost use Rattle.pg_match.specs.Starts.{AreStarts, AreAmong, Targeted, HasEnd};
 
-use crate::state::State;
+use crate::state::{ACCEPT, State};
 use pg_bytes::ByteSet;
 use std::alloc::{AllocError, Allocator, Global};
 
@@ -41,12 +41,12 @@ impl<A: Allocator> Starts<A> {
     }
 }
 
-/// Whether state 0 is a seed.
+/// Whether the state where matches end is a seed.
 fn has_end(seeds: &[u32]) -> bool
     ensures { IsTrue result ↔ HasEnd seeds.now }
 {
     for k in 0..seeds.len() {
-        if seeds[k] == 0 {
+        if seeds[k] == ACCEPT {
             return true;
         }
     }
@@ -90,7 +90,8 @@ fn add_targets<A: Allocator>(
     Ok(())
 }
 
-/// The same, which takes no time for a byte that no seed reads. In a long list of words most bytes are such.
+/// Adds the states that a byte leads to from the seeds, in no time where no seed reads it. In a long list of words most
+/// bytes are such.
 fn add_read<A: Allocator>(
     targets: &mut Vec<u32, A>,
     states: &[State],

@@ -22,6 +22,9 @@ pub enum State {
     Split(u32, u32),
 }
 
+/// The number of the one state that is `Accept`.
+pub(crate) const ACCEPT: u32 = 0;
+
 /// Whether two tables are the same, state by state.
 pub(crate) fn is_same_table(one: &[State], other: &[State]) -> bool
     ensures { IsTrue result ↔ (one.now ≡ other.now) }

@@ -20,7 +20,7 @@ loop-next-preserved g c =
     let good = c.loop-next.invariant.good in
     let e = read_listed (members c.loop-next.set) c.loop-next.next _ good c.loop-next-test.true c.index-from.ensures in
     closing_next _ _ _ _ _ _ _ c.loop-next.invariant c.loop-next-test.true
-    (subst (λ q. Spread c.args.states.now c.args.first c.args.last (members c.loop-next.set)
+    (subst (λ q. Spread c.args.states.now c.args.edges.first c.args.edges.last (members c.loop-next.set)
     (members c.spread.new.set) q) e c.spread.ensures)
 
 pub returns : goal.returns

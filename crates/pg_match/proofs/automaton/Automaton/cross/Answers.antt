@@ -1,8 +1,8 @@
 use Rattle.std.proofs.Common.{◌/◌, ◌+◌, ℕ, get_or, length, arith, refl, subst, sym, true≢false}
 use Rattle.std.proofs.lemmas.Option.{slice_get-get_or}
-use Rattle.pg_match.specs.Memories.{In, IsMemoryOf}
+use Rattle.pg_match.specs.Dfas.{In, IsDfaOf}
 use Rattle.pg_match.specs.Steps.{Has}
-use Rattle.pg_match.specs.Views.{nfa, members, remembered}
+use Rattle.pg_match.specs.Views.{nfa, members, dfa}
 use Rattle.pg_match.proofs.StateSetLemmas.{few}
 use Rattle.pg_match.proofs.StandsLemmas.{stands_next, run_before}
 use Rattle.pg_match.proofs.StartLemmas.{stands_whole}
@@ -16,7 +16,7 @@ returns-in-Hit-clause-crossed g c = (
       let cursor = c.args.cursor in
       let here = c.requires.cursor in
       run_before (nfa c.args.self.now) c.args.line.now cursor.from cursor.place _
-      (In (remembered c.args.memory.now) (cursor.state / 256)) here.stands c.requires.built.runs
+      (In (dfa c.args.cache.now) (cursor.state / 256)) here.stands c.requires.built.runs
       (slice_get-get_or c.args.line.now cursor.place 0 here.within) here.within c.in-Hit.ensures.learned,
   λ run. refl,
 )
@@ -44,8 +44,8 @@ returns-in-Row-clause-crossed g c =
         near = omega (arith, here.near);
         row = learned.0;
         stands = stands_next (nfa c.args.self.now) l cursor.from cursor.place _
-            (In (remembered c.args.memory.now) (cursor.state / 256))
-            (In (remembered c.learn.new.memory) (c.in-Row.state / 256))
+            (In (dfa c.args.cache.now) (cursor.state / 256))
+            (In (dfa c.learn.new.cache) (c.in-Row.state / 256))
             (slice_get-get_or l cursor.place 0 here.within) here.within here.stands learned.2 here.near
             c.requires.built.runs
             learned.1;
@@ -63,7 +63,7 @@ go_without-requires-clause-stands g c =
     let learned = c.in-Lost.ensures.learned in
     let U = Has (members c.learn.new.sets.current) in
     stands_whole m c.args.self.now.seeds.items c.requires.built.seeds l from (p + 1) U (omega arith) here.near
-    (stands_next m l from p _ (In (remembered c.args.memory.now) (c.args.cursor.state / 256)) U
+    (stands_next m l from p _ (In (dfa c.args.cache.now) (c.args.cursor.state / 256)) U
     (slice_get-get_or l p 0 here.within) here.within here.stands learned.1 here.near c.requires.built.runs learned.0)
 
 pub returns-in-Hit-clause-visits : goal.returns-in-Hit-clause-visits
@@ -111,21 +111,21 @@ returns-in-Lost-clause-told g c = told_on _ _ _ _ _ _ c.learn.ensures.told c.go_
 
 pub index-requires : goal.index-requires
 index-requires g c =
-    let size = c.args.memory.now.steps.ok.0 in
-    let inside = in_table (nfa c.args.self.now) (remembered c.args.memory.now) c.args.cursor.state
-    (get_or c.args.line.now c.args.cursor.place 0) c.requires.memory c.requires.cursor.row
+    let size = c.args.cache.now.steps.ok.0 in
+    let inside = in_table (nfa c.args.self.now) (dfa c.args.cache.now) c.args.cursor.state
+    (get_or c.args.line.now c.args.cursor.place 0) c.requires.cache c.requires.cursor.row
     (c.type_inv.line c.args.cursor.place).fits in
     omega (arith, inside, size)
 
 pub overflow_cast-cursor-2 : goal.overflow_cast-cursor-2
 overflow_cast-cursor-2 g c = record {
-  fits = omega (arith, c.requires.cursor.row.known, c.requires.memory.shape.few);
+  fits = omega (arith, c.requires.cursor.row.known, c.requires.cache.shape.few);
 }
 
-pub returns-then-index-eq-LOST-clause-memory : goal.returns-then-index-eq-LOST-clause-memory
-returns-then-index-eq-LOST-clause-memory g c =
-    subst (λ t. IsMemoryOf (nfa c.args.self.now) t) (sym c.leave.ensures.same) c.requires.memory
+pub returns-then-index-eq-LOST-clause-cache : goal.returns-then-index-eq-LOST-clause-cache
+returns-then-index-eq-LOST-clause-cache g c =
+    subst (λ t. IsDfaOf (nfa c.args.self.now) t) (sym c.leave.ensures.same) c.requires.cache
 
-pub returns-in-Lost-clause-memory : goal.returns-in-Lost-clause-memory
-returns-in-Lost-clause-memory g c =
-    subst (λ t. IsMemoryOf (nfa c.args.self.now) t) (sym c.go_without.ensures.same) c.in-Lost.ensures.memory
+pub returns-in-Lost-clause-cache : goal.returns-in-Lost-clause-cache
+returns-in-Lost-clause-cache g c =
+    subst (λ t. IsDfaOf (nfa c.args.self.now) t) (sym c.go_without.ensures.same) c.in-Lost.ensures.cache

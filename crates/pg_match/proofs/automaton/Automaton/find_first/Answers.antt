@@ -1,8 +1,8 @@
 use Rattle.std.proofs.Common.{◌/◌, ◌-◌, ◌+◌, ◌<◌, ◌≤◌, ◌∙◌, arith, length, subst}
 use Rattle.pg_match.specs.Anchored.{IsLastEnd}
-use Rattle.pg_match.specs.Memories.{In}
+use Rattle.pg_match.specs.Dfas.{In}
 use Rattle.pg_match.specs.Steps.{Has}
-use Rattle.pg_match.specs.Views.{nfa, members, remembered}
+use Rattle.pg_match.specs.Views.{nfa, members, dfa}
 use Rattle.pg_match.proofs.AnchoredLemmas.{start_row_few}
 use Rattle.pg_match.proofs.SingleStartLemmas.{stands_same}
 use Rattle.pg_match.proofs.VisitLemmas.{most_fits, most_more, spared_more, visits_joined}
@@ -12,9 +12,9 @@ pub returns-in-Some-clause-visits : goal.returns-in-Some-clause-visits
 returns-in-Some-clause-visits g c =
     let l = length c.args.line.now in
     let f = c.follow_start-state in
-    let ended = subst (IsLastEnd (nfa c.args.self.now) c.args.line.now c.args.start f.result.1) c.in-Some.is
+    let ended = subst (IsLastEnd (nfa c.args.self.now) c.args.line.now c.args.start f.result.place) c.in-Some.is
     f.ensures.found in
-    visits_joined c.args.start (l - f.result.1 + 2) (l + 1) (length c.args.self.now.states.items) _ _
+    visits_joined c.args.start (l - f.result.place + 2) (l + 1) (length c.args.self.now.states.items) _ _
     c.requires.visits c.finish_by_cache.ensures.visits (omega (arith, ended.0, ended.1, f.ensures.within))
 
 pub follow_start-state-requires-clause-known : goal.follow_start-state-requires-clause-known
@@ -25,14 +25,14 @@ finish_first-requires-clause-visits g c =
     let f = c.follow_start-state in
     let run = c.in_ok-run.ensures in
     let end = c.in_ok-run.run' in
-    visits_joined c.args.start (end.place - f.result.1) end.place (length c.args.self.now.states.items) _ _
+    visits_joined c.args.start (end.place - f.result.place) end.place (length c.args.self.now.states.items) _ _
     c.requires.visits run.visits (omega (arith, f.ensures.onward, run.run.1))
 
 pub follow_until_end-requires-clause-stands : goal.follow_until_end-requires-clause-stands
 follow_until_end-requires-clause-stands g c =
     let f = c.follow_start-state in
-    stands_same (nfa c.args.self.now) c.args.line.now c.args.start f.result.1
-    (In (remembered c.args.memory.now) (f.result.0 / 256)) (Has (members c.load.new.set)) c.load.ensures.same
+    stands_same (nfa c.args.self.now) c.args.line.now c.args.start f.result.place
+    (In (dfa c.args.cache.now) (f.result.state / 256)) (Has (members c.load.new.set)) c.load.ensures.same
     f.ensures.stands
 
 pub overflow_mul-most : goal.overflow_mul-most

@@ -1,10 +1,10 @@
 use Rattle.std.proofs.Common.{◌≡◌, ℕ, ◌+◌, ◌≤◌, ◌/◌, false, arith, subst}
-use Rattle.pg_match.specs.Memories.{In}
+use Rattle.pg_match.specs.Dfas.{In}
 use Rattle.pg_match.specs.Steps.{Has}
-use Rattle.pg_match.specs.Views.{nfa, members, remembered}
+use Rattle.pg_match.specs.Views.{nfa, members, dfa}
 use Rattle.pg_match.proofs.StateSetLemmas.{few}
 use Rattle.pg_match.proofs.CacheLemmas.{finishes_hit, finishes_end, settled_finishes, settles_dead, answers_same}
-use Rattle.pg_match.proofs.CacheLemmas.{memory_marked_end}
+use Rattle.pg_match.proofs.CacheLemmas.{dfa_marked_end}
 use Rattle.pg_match.proofs.automaton.Automaton.finish.Goals as goal
 
 visits_by : (n v w k : ℕ) → w ≤ v + k → k ≤ n → w ≤ v + n
@@ -44,22 +44,22 @@ returns-in-Dead-clause-visits g c =
 pub returns-in-Dead-clause-finishes : goal.returns-in-Dead-clause-finishes
 returns-in-Dead-clause-finishes g c =
     let m = nfa c.args.self.now in
-    let S = In (remembered c.args.memory.now) (c.args.state / 256) in
+    let S = In (dfa c.args.cache.now) (c.args.state / 256) in
     settled_finishes m c.args.byte S false (settles_dead m c.args.byte S c.in-Dead.ensures.learned)
 
 pub returns-in-Hit-clause-finishes : goal.returns-in-Hit-clause-finishes
 returns-in-Hit-clause-finishes g c =
     finishes_hit (nfa c.args.self.now) c.args.byte
-    (In (remembered c.args.memory.now) (c.args.state / 256)) c.requires.built.runs c.in-Hit.ensures.learned
+    (In (dfa c.args.cache.now) (c.args.state / 256)) c.requires.built.runs c.in-Hit.ensures.learned
 
-pub returns-in-Row-clause-memory : goal.returns-in-Row-clause-memory
-returns-in-Row-clause-memory g c =
+pub returns-in-Row-clause-cache : goal.returns-in-Row-clause-cache
+returns-in-Row-clause-cache g c =
     let m = nfa c.args.self.now in
-    let mid = remembered c.learn.new.memory in
+    let mid = dfa c.learn.new.cache in
     let u = members c.learn.new.sets.current in
     let k = c.in-Row.to / 256 in
     let learned = c.in-Row.ensures.learned in
-    memory_marked_end m mid (remembered c.mark_end.new.self) k c.hits_at_end-answer.result c.in-Row.ensures.memory
+    dfa_marked_end m mid (dfa c.mark_end.new.self) k c.hits_at_end-answer.result c.in-Row.ensures.cache
     c.mark_end.ensures.marked
     learned.0.known (answers_same m false (Has u)
     (In mid k) c.hits_at_end-answer.result learned.3 c.hits_at_end-answer.ensures.answer)
@@ -67,18 +67,18 @@ returns-in-Row-clause-memory g c =
 pub returns-in-Row-clause-finishes : goal.returns-in-Row-clause-finishes
 returns-in-Row-clause-finishes g c =
     let m = nfa c.args.self.now in
-    let mid = remembered c.learn.new.memory in
+    let mid = dfa c.learn.new.cache in
     let u = members c.learn.new.sets.current in
     let k = c.in-Row.to / 256 in
     let learned = c.in-Row.ensures.learned in
-    finishes_end m c.args.byte (In (remembered c.args.memory.now) (c.args.state / 256))
+    finishes_end m c.args.byte (In (dfa c.args.cache.now) (c.args.state / 256))
     (In mid k) c.hits_at_end-answer.result c.requires.built.runs learned.1 learned.2
     (answers_same m false (Has u) (In mid k) c.hits_at_end-answer.result learned.3 c.hits_at_end-answer.ensures.answer)
 
 pub returns-in-Lost-clause-finishes : goal.returns-in-Lost-clause-finishes
 returns-in-Lost-clause-finishes g c =
     let learned = c.in-Lost.ensures.learned in
-    finishes_end (nfa c.args.self.now) c.args.byte (In (remembered c.args.memory.now) (c.args.state / 256))
+    finishes_end (nfa c.args.self.now) c.args.byte (In (dfa c.args.cache.now) (c.args.state / 256))
     (Has (members c.learn.new.sets.current)) _ c.requires.built.runs
     learned.0 learned.1 c.hits_at_end.ensures.answer
 
@@ -104,7 +104,7 @@ pub mark_end-requires-clause-size : goal.mark_end-requires-clause-size
 mark_end-requires-clause-size g c = omega arith
 
 pub mark_end-requires-clause-row : goal.mark_end-requires-clause-row
-mark_end-requires-clause-row g c = omega (arith, c.in-Row.ensures.learned.0.known, c.learn.ensures.memory.shape.few)
+mark_end-requires-clause-row g c = omega (arith, c.in-Row.ensures.learned.0.known, c.learn.ensures.cache.shape.few)
 
 pub hits_at_end-answer-requires-clause-visits : goal.hits_at_end-answer-requires-clause-visits
 hits_at_end-answer-requires-clause-visits g c =

@@ -1,6 +1,6 @@
-use Rattle.pg_match.specs.Memories.{In}
+use Rattle.pg_match.specs.Dfas.{In}
 use Rattle.pg_match.specs.Steps.{Has}
-use Rattle.pg_match.specs.Views.{nfa, members, remembered}
+use Rattle.pg_match.specs.Views.{nfa, members, dfa}
 use Rattle.pg_match.proofs.SingleStartLemmas.{anchored_same}
 use Rattle.pg_match.proofs.automaton.Automaton.finish_anchored.Goals as goal
 
@@ -8,5 +8,5 @@ pub finish_by_cache-requires-clause-run : goal.finish_by_cache-requires-clause-r
 finish_by_cache-requires-clause-run g c =
     let a = c.args in
     anchored_same (nfa a.self.now) a.line.now a.run.start a.run.place a.run.last
-    (Has (members a.sets.now.current)) (In (remembered c.row_alone.new.memory) c.in-Some.row) c.in-Some.ensures.row
+    (Has (members a.sets.now.current)) (In (dfa c.row_alone.new.cache) c.in-Some.row) c.in-Some.ensures.row
     c.requires.run

@@ -1,6 +1,6 @@
 use Rattle.std.proofs.Common.{◌-◌, ◌+◌, ◌∙◌, arith, length, Some, subst}
 use Rattle.pg_match.specs.Anchored.{IsLongestFrom}
-use Rattle.pg_match.specs.Views.{nfa, remembered}
+use Rattle.pg_match.specs.Views.{nfa, dfa}
 use Rattle.pg_match.proofs.VisitLemmas.{told_on, visits_since}
 use Rattle.pg_match.proofs.SingleStartLemmas.{follows_keeps, follows_anchored, visits_less, visits_step, visits_sum}
 use Rattle.pg_match.proofs.automaton.Automaton.finish_by_cache.Goals as goal
@@ -8,20 +8,20 @@ use Rattle.pg_match.proofs.automaton.Automaton.finish_by_cache.Goals as goal
 pub follow_cached-state-requires-clause-follows : goal.follow_cached-state-requires-clause-follows
 follow_cached-state-requires-clause-follows g c =
     let a = c.args in
-    follows_anchored (nfa a.self.now) (remembered a.memory.now) a.line.now a.run.start a.run.place a.run.last a.row
+    follows_anchored (nfa a.self.now) (dfa a.cache.now) a.line.now a.run.start a.run.place a.run.last a.row
     c.requires.known c.requires.run
 
 pub cached_step-requires-clause-follows : goal.cached_step-requires-clause-follows
 cached_step-requires-clause-follows g c =
     let at = c.loop-at.at in
-    follows_keeps (nfa c.args.self.now) (remembered c.loop-at.memory) (remembered c.learn_alone.new.memory)
+    follows_keeps (nfa c.args.self.now) (dfa c.loop-at.cache) (dfa c.learn_alone.new.cache)
     c.args.line.now at.start at.place c.loop-at.state (Some at.last) c.learn_alone.ensures.keeps
     c.loop-at.invariant.follows
 
 pub finish_uncached-requires-clause-follows : goal.finish_uncached-requires-clause-follows
 finish_uncached-requires-clause-follows g c =
     let at = c.loop-at.at in
-    follows_keeps (nfa c.args.self.now) (remembered c.loop-at.memory) (remembered c.learn_alone.new.memory)
+    follows_keeps (nfa c.args.self.now) (dfa c.loop-at.cache) (dfa c.learn_alone.new.cache)
     c.args.line.now at.start at.place c.loop-at.state (Some at.last) c.learn_alone.ensures.keeps
     c.loop-at.invariant.follows
 
@@ -74,7 +74,7 @@ loop-at-preserved g c =
     let further = c.follow_cached-further.ensures in
     record {
       room = known.room;
-      memory = known.memory;
+      cache = known.cache;
       some = known.some;
       start = further.start ∙ (step.start ∙ i.start);
       onward = omega (arith, i.onward, step.place, further.onward);

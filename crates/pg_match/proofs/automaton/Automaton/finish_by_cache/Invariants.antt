@@ -1,17 +1,17 @@
 use Rattle.std.proofs.Common.{◌≡◌, ◌+◌, ◌-◌, ◌*◌, ◌≤◌, Some, length}
-use Rattle.pg_match.specs.Anchored.{IsAnchoredMemoryOf, Follows}
+use Rattle.pg_match.specs.Anchored.{IsAnchoredDfaOf, Follows}
 use Rattle.pg_match.specs.StateSets.{HaveRoom}
-use Rattle.pg_match.specs.Views.{nfa, buffers, remembered, Tells}
+use Rattle.pg_match.specs.Views.{nfa, buffers, dfa, Tells}
 use Rattle.pg_match.proofs.automaton.Automaton.finish_by_cache.Given as goal
 
 abbrev pub invariant-loop-at : goal.invariant-loop-at
 invariant-loop-at g l = record {
   room : HaveRoom (buffers l.sets) (length l.self.states.items);
-  memory : IsAnchoredMemoryOf (nfa l.self) (remembered l.memory);
-  some : 2 ≤ l.memory.count;
+  cache : IsAnchoredDfaOf (nfa l.self) (dfa l.cache);
+  some : 2 ≤ l.cache.count;
   start : l.at.start ≡ l.fn.run.start;
   onward : l.fn.run.place ≤ l.at.place;
-  follows : Follows (nfa l.self) (remembered l.memory) l.line l.at.start l.at.place l.state (Some l.at.last);
+  follows : Follows (nfa l.self) (dfa l.cache) l.line l.at.start l.at.place l.state (Some l.at.last);
   visits : l.sets.visits ≤ l.fn.sets.visits + (l.at.place - l.fn.run.place) * length l.self.states.items;
   told : Tells l.fn.sets l.sets;
 }

@@ -2,7 +2,7 @@ use Rattle.std.proofs.Common.{ℕ, arith, refl, sym, subst}
 use Rattle.std.specs.Prelude.{IsNone}
 use Rattle.pg_match.specs.Starts.{Searched}
 use Rattle.pg_match.specs.Steps.{Has}
-use Rattle.pg_match.specs.Views.{nfa, members, remembered}
+use Rattle.pg_match.specs.Views.{nfa, members, dfa}
 use Rattle.pg_match.proofs.VisitLemmas.{visits_reached, visits_back}
 use Rattle.pg_match.proofs.CursorLemmas.{runs_ended, cursor_back}
 use Rattle.pg_match.proofs.StateSetLemmas.{few}
@@ -22,7 +22,7 @@ returns-in-None-clause-crossed g c =
     let stands = subst (λ o. Searched m seeds l from here S o) c.in-None.is
     (found.searched from c.requires.near c.requires.stands) in (
       omega (arith, left.0),
-      cursor_back m (remembered c.args.memory.now) l here c.requires.memory (omega (arith, left.0)) found.within,
+      cursor_back m (dfa c.args.cache.now) l here c.requires.cache (omega (arith, left.0)) found.within,
       runs_ended m seeds c.requires.built.seeds l from here S (omega (arith, c.requires.near, found.onward)) empty
           stands,
     )

@@ -1,10 +1,10 @@
 use Rattle.std.proofs.Common.{◌/◌, ◌∙◌, ◌≤◌, IsTrue, false, length, arith, sym, refl, true≢false}
 use Rattle.std.proofs.lemmas.Option.{slice_get-get_or}
-use Rattle.pg_match.specs.Memories.{In}
+use Rattle.pg_match.specs.Dfas.{In}
 use Rattle.pg_match.specs.Stands.{NoneBefore}
 use Rattle.pg_match.specs.Starts.{WithSeeds}
 use Rattle.pg_match.specs.Steps.{Has}
-use Rattle.pg_match.specs.Views.{nfa, members, remembered}
+use Rattle.pg_match.specs.Views.{nfa, members, dfa}
 use Rattle.pg_match.proofs.CursorLemmas.{stands_begun, runs_same, crosses_from}
 use Rattle.pg_match.proofs.StandsLemmas.{stands_next, run_before}
 use Rattle.pg_match.proofs.StartLemmas.{goes_whole, plain_whole}
@@ -30,7 +30,7 @@ returns-then-sets-start-clause-crossed g c =
       | in-Known w ↦ rw w.start-is (w.in-Known.ensures.0, w.in-Known.ensures.2)
       | in-Known-2 w ↦ rw w.start-is (w.in-Known.ensures.0, w.in-Known.ensures.2)
     ] in
-    crosses_from m (remembered c.args.memory.now) l c.args.cursor
+    crosses_from m (dfa c.args.cache.now) l c.args.cursor
     (record { from = start; place = c.args.cursor.place; state = c.args.cursor.state }) c.go_without.result refl
     (runs_same m l from start known.0 known.1) c.go_without.ensures.crossed
 
@@ -42,7 +42,7 @@ returns-then-hits_before-clause-crossed g c = (
       let cursor = c.args.cursor in
       let S = Has (members c.load.new.set) in
       let here = c.requires.cursor in
-      let s = stands_at m l cursor.from cursor.place (In (remembered c.args.memory.now) (cursor.state / 256)) S
+      let s = stands_at m l cursor.from cursor.place (In (dfa c.args.cache.now) (cursor.state / 256)) S
       c.load.ensures.same here.stands in
       run_before m l cursor.from cursor.place _ S s c.requires.built.runs
       (slice_get-get_or l cursor.place 0 here.within)
@@ -60,7 +60,7 @@ go_without-requires-2-clause-stands g c =
     let S = Has (members c.load.new.set) in
     let seeds = c.args.self.now.seeds.items in
     let byte = slice_get-get_or l p 0 here.within in
-    let s = stands_at m l from p (In (remembered c.args.memory.now) (c.args.cursor.state / 256)) S c.load.ensures.same
+    let s = stands_at m l from p (In (dfa c.args.cache.now) (c.args.cursor.state / 256)) S c.load.ensures.same
     here.stands in
     let none = plain_whole seeds S in
     stands_next m l from p _ (WithSeeds seeds (IsTrue false) S) _ byte here.within
@@ -109,7 +109,7 @@ go_without-requires-clause-visits g c =
 
 pub overflow_cast-cursor : goal.overflow_cast-cursor
 overflow_cast-cursor g c = record {
-  fits = omega (arith, c.requires.cursor.row.known, c.requires.memory.shape.few);
+  fits = omega (arith, c.requires.cursor.row.known, c.requires.cache.shape.few);
 }
 
 pub go_on-requires-clause-visits : goal.go_on-requires-clause-visits

@@ -1,7 +1,7 @@
 use Rattle.std.proofs.Common.{◌<◌, ◌+◌, ℕ, length, arith, refl}
 use Rattle.std.proofs.lemmas.Option.{slice_get-get_or}
-use Rattle.pg_match.specs.Memories.{In}
-use Rattle.pg_match.specs.Views.{nfa, remembered}
+use Rattle.pg_match.specs.Dfas.{In}
+use Rattle.pg_match.specs.Views.{nfa, dfa}
 use Rattle.pg_match.proofs.StandsLemmas.{stands_first}
 use Rattle.pg_match.proofs.CacheLemmas.{at_row}
 use Rattle.pg_match.proofs.VisitLemmas.{visits_small, visits_later, visits_on, told_on}
@@ -17,17 +17,17 @@ search_first-requires-clause-visits g c =
 
 pub loop-cursor-init : goal.loop-cursor-init
 loop-cursor-init g c =
-    let mem = remembered c.first.new.memory in
+    let table = dfa c.first.new.cache in
     let one = c.first.ensures.some c.if-not-first.false in
     record {
       room = c.first.ensures.room;
-      memory = c.first.ensures.memory;
+      cache = c.first.ensures.cache;
       some = one;
       cursor = record {
         within = omega (arith, c.requires.bytes);
         near = omega arith;
-        row = at_row mem 256 1 refl one;
-        stands = stands_first (nfa c.args.self.now) c.args.line.now (In mem 1) (c.first.ensures.memory.first one);
+        row = at_row table 256 1 refl one;
+        stands = stands_first (nfa c.args.self.now) c.args.line.now (In table 1) (c.first.ensures.cache.first one);
       };
       from = (λ run. run, λ run. run);
       visits = let v = c.first.ensures.visits in omega arith;
@@ -67,7 +67,7 @@ loop-cursor-preserved g c =
     let same = c.loop-cursor.invariant.from in
     record {
       room = on.room;
-      memory = on.memory;
+      cache = on.cache;
       some = on.some;
       cursor = on.crossed.1;
       from = (λ run. on.crossed.2.0 (same.0 run), λ run. same.1 (on.crossed.2.1 run));

@@ -1,7 +1,7 @@
 use Rattle.std.proofs.Common.{◌≡◌, ◌+◌, ◌/◌, ◌<◌, ◌≤◌, ◌∙◌, get_or, length, arith, sym, true≢false, false}
 use Rattle.std.proofs.lemmas.List.{get_or_read}
 use Rattle.std.proofs.lemmas.Option.{slice_get-get_or}
-use Rattle.pg_match.specs.Views.{nfa, remembered}
+use Rattle.pg_match.specs.Views.{nfa, dfa}
 use Rattle.pg_match.proofs.CacheLemmas.{in_table, told_dead, row_next}
 use Rattle.pg_match.proofs.ScanLemmas.{scan_first, scan_later, scan_on, scan_fresh}
 use Rattle.pg_match.proofs.automaton.Automaton.scan.Goals as goal
@@ -10,25 +10,25 @@ use Rattle.pg_match.proofs.automaton.Automaton.scan.Goals.{then-from-eq0, else-f
 pub follow_rows-state-requires-clause-scanned : goal.follow_rows-state-requires-clause-scanned
 follow_rows-state-requires-clause-scanned g c =
     let m = nfa c.args.self.now in
-    let mem = remembered c.args.memory.now in
+    let table = dfa c.args.cache.now in
     let l = c.args.line.now in
     let place = c.saturating_sub.ensures in
     elim c.if-from-eq0.branch [
       | then-from-eq0 w ↦
           rw (w.first-is, w.if-from-eq0.true)
-          (scan_first m mem l c.saturating_sub.result c.requires.memory
-          (omega (arith, c.if-memory-eq0.false)) c.requires.bytes
+          (scan_first m table l c.saturating_sub.result c.requires.cache
+          (omega (arith, c.if-cache-eq0.false)) c.requires.bytes
           (omega (arith, w.if-from-eq0.true)))
       | else-from-eq0 w ↦
           rw w.first-is
-          (scan_later m mem l c.args.from c.saturating_sub.result c.requires.memory w.if-from-eq0.false
+          (scan_later m table l c.args.from c.saturating_sub.result c.requires.cache w.if-from-eq0.false
           c.requires.from_in (omega arith))
     ]
 
 pub index-requires : goal.index-requires
 index-requires g c =
     let m = nfa c.args.self.now in
-    let mem = remembered c.args.memory.now in
+    let table = dfa c.args.cache.now in
     let l = c.args.line.now in
     let s = c.loop-place.invariant in
     let p = c.loop-place.place in
@@ -37,17 +37,17 @@ index-requires g c =
     let more : p + 1 < length l = omega (arith, c.loop-place-test.true) in
     let b = get_or l p 0 in
     let lt : b < 256 = omega (arith, c.type_inv.line p) in
-    let read = get_or_read mem.steps (at + b) v
-    (in_table m mem at b c.requires.memory s.row lt) c.index-next.ensures 0 in
-    let big : 256 ≤ v = omega (arith, c.if-next-lt256.false) in
-    let row = row_next m mem at v b c.requires.memory s.row lt read big in
-    let size = c.args.memory.now.fresh.ok.0 in
-    omega (arith, row.0.known, c.requires.memory.shape.few, c.requires.memory.shape.fresh_size)
+    let read = get_or_read table.steps (at + b) v
+    (in_table m table at b c.requires.cache s.row lt) c.index-next.ensures 0 in
+    let big : 256 ≤ v = omega (arith, c.if-next-lt-STRIDE.false) in
+    let row = row_next m table at v b c.requires.cache s.row lt read big in
+    let size = c.args.cache.now.flags.ok.0 in
+    omega (arith, row.0.known, c.requires.cache.shape.few, c.requires.cache.shape.flags_size)
 
 pub loop-place-preserved-then-index : goal.loop-place-preserved-then-index
 loop-place-preserved-then-index g c =
     let m = nfa c.args.self.now in
-    let mem = remembered c.args.memory.now in
+    let table = dfa c.args.cache.now in
     let l = c.args.line.now in
     let s = c.loop-place.invariant in
     let p = c.loop-place.place in
@@ -56,22 +56,22 @@ loop-place-preserved-then-index g c =
     let more : p + 1 < length l = omega (arith, c.loop-place-test.true) in
     let b = get_or l p 0 in
     let lt : b < 256 = omega (arith, c.type_inv.line p) in
-    let read = get_or_read mem.steps (at + b) v
-    (in_table m mem at b c.requires.memory s.row lt) c.index-next.ensures 0 in
-    let big : 256 ≤ v = omega (arith, c.if-next-lt256.false) in
-    let row = row_next m mem at v b c.requires.memory s.row lt read big in
-    let size = c.args.memory.now.fresh.ok.0 in
-    let inside : v / 256 < length mem.fresh =
-    omega (arith, row.0.known, c.requires.memory.shape.few, c.requires.memory.shape.fresh_size) in
-    let fresh = get_or_read mem.fresh (v / 256) c.index.result.now inside c.index.ensures false in
-    scan_fresh m mem l c.args.from p at c.loop-place.start v b c.requires.built.runs c.requires.memory lt
+    let read = get_or_read table.steps (at + b) v
+    (in_table m table at b c.requires.cache s.row lt) c.index-next.ensures 0 in
+    let big : 256 ≤ v = omega (arith, c.if-next-lt-STRIDE.false) in
+    let row = row_next m table at v b c.requires.cache s.row lt read big in
+    let size = c.args.cache.now.flags.ok.0 in
+    let inside : v / 256 < length table.flags =
+    omega (arith, row.0.known, c.requires.cache.shape.few, c.requires.cache.shape.flags_size) in
+    let fresh = get_or_read table.flags (v / 256) c.index.result.now inside c.index.ensures false in
+    scan_fresh m table l c.args.from p at c.loop-place.start v b c.requires.built.runs c.requires.cache lt
     (slice_get-get_or l p 0 (omega arith)) more read big s
     (sym fresh ∙ c.if-index.true)
 
 pub loop-place-preserved : goal.loop-place-preserved
 loop-place-preserved g c =
     let m = nfa c.args.self.now in
-    let mem = remembered c.args.memory.now in
+    let table = dfa c.args.cache.now in
     let l = c.args.line.now in
     let s = c.loop-place.invariant in
     let p = c.loop-place.place in
@@ -80,10 +80,10 @@ loop-place-preserved g c =
     let more : p + 1 < length l = omega (arith, c.loop-place-test.true) in
     let b = get_or l p 0 in
     let lt : b < 256 = omega (arith, c.type_inv.line p) in
-    let read = get_or_read mem.steps (at + b) v
-    (in_table m mem at b c.requires.memory s.row lt) c.index-next.ensures 0 in
-    let big : 256 ≤ v = omega (arith, c.if-next-lt256.false) in
-    scan_on m mem l c.args.from p at c.loop-place.start v b c.requires.built.runs c.requires.memory lt
+    let read = get_or_read table.steps (at + b) v
+    (in_table m table at b c.requires.cache s.row lt) c.index-next.ensures 0 in
+    let big : 256 ≤ v = omega (arith, c.if-next-lt-STRIDE.false) in
+    scan_on m table l c.args.from p at c.loop-place.start v b c.requires.built.runs c.requires.cache lt
     (slice_get-get_or l p 0 (omega arith)) more read big s
 
 pub returns-in-Some-false : goal.returns-in-Some-false
@@ -99,7 +99,7 @@ returns-in-Some-false g c = λ run.
 pub returns-then-next-eq-DEAD : goal.returns-then-next-eq-DEAD
 returns-then-next-eq-DEAD g c = λ run.
     let m = nfa c.args.self.now in
-    let mem = remembered c.args.memory.now in
+    let table = dfa c.args.cache.now in
     let l = c.args.line.now in
     let s = c.loop-place.invariant in
     let p = c.loop-place.place in
@@ -107,7 +107,7 @@ returns-then-next-eq-DEAD g c = λ run.
     let v = c.index-next.result.now in
     let b = get_or l p 0 in
     let lt : b < 256 = omega (arith, c.type_inv.line p) in
-    let read = get_or_read mem.steps (at + b) v
-    (in_table m mem at b c.requires.memory s.row lt) c.index-next.ensures 0 in
-    told_dead m mem at v b c.requires.memory s.row lt read c.if-next-eq-DEAD.true l c.args.from p s.within s.stands
+    let read = get_or_read table.steps (at + b) v
+    (in_table m table at b c.requires.cache s.row lt) c.index-next.ensures 0 in
+    told_dead m table at v b c.requires.cache s.row lt read c.if-next-eq-DEAD.true l c.args.from p s.within s.stands
     (slice_get-get_or l p 0 s.within) run

@@ -42,7 +42,7 @@ loop-sets-preserved g c =
     let size = c.in-Row.ensures.room.now_size in
     record {
       room = c.in-Row.ensures.room;
-      memory = c.in-Row.ensures.memory;
+      cache = c.in-Row.ensures.cache;
       some = c.in-Row.ensures.some;
       within = omega (arith, c.walk-at.ensures.within, c.if-here-line.false);
       row = c.in-Row.ensures.learned.0;
@@ -59,7 +59,7 @@ returns-in-Hit g c =
     let size = c.learn.ensures.room.now_size in
     record {
       room = c.learn.ensures.room;
-      memory = c.learn.ensures.memory;
+      cache = c.learn.ensures.cache;
       visits = visits_after (length c.args.line.now)
           (length c.args.self.now.states.items) c.len-size.result c.loop-sets.sets.visits c.learn.new.sets.visits _
           (c.len-size.ensures ∙ c.args.self.now.states.ok.0) c.if-sets-most-2.false
@@ -109,8 +109,8 @@ learn-requires-clause-known g c = omega arith
 pub learn-requires-clause-some : goal.learn-requires-clause-some
 learn-requires-clause-some g c = omega arith
 
-pub returns-in-Lost-clause-memory : goal.returns-in-Lost-clause-memory
-returns-in-Lost-clause-memory g c = rw c.lose-in-Lost.ensures c.in-Lost.ensures.memory
+pub returns-in-Lost-clause-cache : goal.returns-in-Lost-clause-cache
+returns-in-Lost-clause-cache g c = rw c.lose-in-Lost.ensures c.in-Lost.ensures.cache
 
 pub overflow_mul-most : goal.overflow_mul-most
 overflow_mul-most g c =
@@ -121,10 +121,10 @@ overflow_mul-most g c =
 pub loop-sets-init : goal.loop-sets-init
 loop-sets-init g c =
     let first = c.first.ensures in
-    let some : 1 ≤ c.first.new.memory.count = first.some cc in
+    let some : 1 ≤ c.first.new.cache.count = first.some cc in
     record {
       room = first.room;
-      memory = first.memory;
+      cache = first.cache;
       some = some;
       within = omega arith;
       row = elim c.if-from-eq0.branch [

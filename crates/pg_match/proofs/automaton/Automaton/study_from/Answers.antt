@@ -1,40 +1,40 @@
 use Rattle.std.proofs.Common.{◌∙◌, length, arith, refl}
 use Rattle.pg_match.proofs.AnchoredLemmas.{start_row_few}
-use Rattle.pg_match.specs.Views.{remembered}
+use Rattle.pg_match.specs.Views.{dfa}
 use Rattle.pg_match.proofs.CacheLemmas.{at_row}
 use Rattle.pg_match.proofs.VisitLemmas.{told_on, within_most, within_room, visits_whole}
 use Rattle.pg_match.proofs.automaton.Automaton.study_from.Goals as goal
 
-pub loop-memory-init : goal.loop-memory-init
-loop-memory-init g c = record {
+pub loop-cache-init : goal.loop-cache-init
+loop-cache-init g c = record {
   room = c.requires.room;
-  memory = c.requires.memory;
+  cache = c.requires.cache;
   visits = c.requires.visits;
   told = refl;
 }
 
-pub loop-memory-preserved : goal.loop-memory-preserved
-loop-memory-preserved g c =
+pub loop-cache-preserved : goal.loop-cache-preserved
+loop-cache-preserved g c =
     let added = c.first_alone.ensures in
     record {
       room = added.room;
-      memory = added.memory;
+      cache = added.cache;
       visits = visits_whole _ _ _ _ _ (c.len-size.ensures ∙ c.args.self.now.states.ok.0) c.if-sets-most.false
           added.visits;
-      told = told_on _ _ _ _ _ _ c.loop-memory.invariant.told added.told;
+      told = told_on _ _ _ _ _ _ c.loop-cache.invariant.told added.told;
     }
 
-pub loop-memory-smaller : goal.loop-memory-smaller
-loop-memory-smaller g c =
-    let more = c.first_alone.ensures.more c.if-not-first_alone.false in omega (arith, c.loop-memory-test.true)
+pub loop-cache-smaller : goal.loop-cache-smaller
+loop-cache-smaller g c =
+    let more = c.first_alone.ensures.more c.if-not-first_alone.false in omega (arith, c.loop-cache-test.true)
 
 pub loop-place-init : goal.loop-place-init
 loop-place-init g c =
-    let kept = c.loop-memory.invariant in
+    let kept = c.loop-cache.invariant in
     record {
       room = kept.room;
-      memory = kept.memory;
-      some = c.loop-memory-test.false;
+      cache = kept.cache;
+      some = c.loop-cache-test.false;
       row = c.walk_alone-state.ensures.row;
       visits = kept.visits;
       told = kept.told;
@@ -45,7 +45,7 @@ loop-place-preserved g c =
     let learned = c.in-Some.ensures in
     record {
       room = learned.room;
-      memory = learned.memory;
+      cache = learned.cache;
       some = learned.some;
       row = c.walk_alone-at.ensures.row;
       visits = visits_whole _ _ _ _ _ (c.len-size.ensures ∙ c.args.self.now.states.ok.0) c.if-sets-most-2.false
@@ -72,7 +72,7 @@ returns-then-not-first_alone-clause-visits g c =
 
 pub returns-then-not-first_alone-clause-told : goal.returns-then-not-first_alone-clause-told
 returns-then-not-first_alone-clause-told g c =
-    told_on _ _ _ _ _ _ c.loop-memory.invariant.told c.first_alone.ensures.told
+    told_on _ _ _ _ _ _ c.loop-cache.invariant.told c.first_alone.ensures.told
 
 pub returns-in-None-clause-visits : goal.returns-in-None-clause-visits
 returns-in-None-clause-visits g c =
@@ -99,9 +99,9 @@ learn_end-requires-clause-visits g c =
 pub walk_alone-state-requires-clause-row : goal.walk_alone-state-requires-clause-row
 walk_alone-state-requires-clause-row g c =
     let few = start_row_few c.args.start in
-    at_row (remembered c.loop-memory.memory) _ c.start_row.result refl
-    (omega (arith, few, c.start_row.ensures, c.loop-memory-test.false))
+    at_row (dfa c.loop-cache.cache) _ c.start_row.result refl
+    (omega (arith, few, c.start_row.ensures, c.loop-cache-test.false))
 
 pub walk_alone-at-requires-clause-row : goal.walk_alone-at-requires-clause-row
 walk_alone-at-requires-clause-row g c =
-    at_row (remembered c.learn_alone.new.memory) _ c.in-Some.next refl c.in-Some.ensures.known
+    at_row (dfa c.learn_alone.new.cache) _ c.in-Some.next refl c.in-Some.ensures.known

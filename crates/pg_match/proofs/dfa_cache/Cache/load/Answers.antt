@@ -2,41 +2,41 @@ use Rattle.std.proofs.Common.{◌∙◌, ◌<◌, ◌≤◌, ◌+◌, length, ar
 use Rattle.std.proofs.lemmas.List.{get_or_read}
 use Rattle.std.specs.Prelude.{slice_index}
 use Rattle.pg_match.proofs.CacheLemmas.{loading_next, ones_more}
-use Rattle.pg_match.specs.Views.{members, remembered}
+use Rattle.pg_match.specs.Views.{members, dfa}
 use Rattle.pg_match.proofs.dfa_cache.Cache.load.Goals as goal
 
 pub fetch-requires-clause-within : goal.fetch-requires-clause-within
 fetch-requires-clause-within g c =
-    let mem = remembered c.args.self.now in
+    let table = dfa c.args.self.now in
     let row = c.args.row in
     let shape = c.requires.shape in
-    let start = get_or_read mem.cuts row c.index.result.now
+    let start = get_or_read table.cuts row c.index.result.now
     (omega (arith, shape.cuts_size, shape.few)) c.index.ensures 0 in
-    let end = get_or_read mem.cuts (row + 1) c.index-2.result.now
+    let end = get_or_read table.cuts (row + 1) c.index-2.result.now
     (omega (arith, shape.cuts_size, shape.few)) c.index-2.ensures 0 in
     let up = shape.upto (row + 1) (omega arith) in
     let rm = shape.room in
-    let lt : c.loop-k.k < length mem.pool = omega (arith, shape.pool_size) in
-    let x = get_or_read mem.pool c.loop-k.k c.index-in-loop-k.result.now lt c.index-in-loop-k.ensures 0 in
+    let lt : c.loop-k.k < length table.pool = omega (arith, shape.pool_size) in
+    let x = get_or_read table.pool c.loop-k.k c.index-in-loop-k.result.now lt c.index-in-loop-k.ensures 0 in
     let w = shape.within row c.index-in-loop-k.result.now c.requires.known
     (c.loop-k.k, omega arith, omega arith, sym x) in
     omega (arith, w, c.loop-k.invariant.loading.size)
 
 pub loop-k-preserved : goal.loop-k-preserved
 loop-k-preserved g c =
-    let mem = remembered c.args.self.now in
+    let table = dfa c.args.self.now in
     let row = c.args.row in
     let shape = c.requires.shape in
-    let start = get_or_read mem.cuts row c.index.result.now
+    let start = get_or_read table.cuts row c.index.result.now
     (omega (arith, shape.cuts_size, shape.few)) c.index.ensures 0 in
-    let end = get_or_read mem.cuts (row + 1) c.index-2.result.now
+    let end = get_or_read table.cuts (row + 1) c.index-2.result.now
     (omega (arith, shape.cuts_size, shape.few)) c.index-2.ensures 0 in
     let up = shape.upto (row + 1) (omega arith) in
     let rm = shape.room in
-    let lt : c.loop-k.k < length mem.pool = omega (arith, shape.pool_size) in
-    let x = get_or_read mem.pool c.loop-k.k c.index-in-loop-k.result.now lt c.index-in-loop-k.ensures 0 in
+    let lt : c.loop-k.k < length table.pool = omega (arith, shape.pool_size) in
+    let x = get_or_read table.pool c.loop-k.k c.index-in-loop-k.result.now lt c.index-in-loop-k.ensures 0 in
     record {
-      loading = loading_next mem row (members c.args.set.now) (members c.loop-k.set)
+      loading = loading_next table row (members c.args.set.now) (members c.loop-k.set)
           (members c.fetch.new.self) c.loop-k.k c.index-in-loop-k.result.now c.loop-k.invariant.loading
           (omega arith) x c.fetch.ensures.inserted;
       ones = ones_more (members c.loop-k.set) (members c.fetch.new.self) c.index-in-loop-k.result.now
@@ -46,12 +46,12 @@ loop-k-preserved g c =
 
 pub returns-clause-same : goal.returns-clause-same
 returns-clause-same g c =
-    let mem = remembered c.args.self.now in
+    let table = dfa c.args.self.now in
     let row = c.args.row in
     let shape = c.requires.shape in
-    let start = get_or_read mem.cuts row c.index.result.now
+    let start = get_or_read table.cuts row c.index.result.now
     (omega (arith, shape.cuts_size, shape.few)) c.index.ensures 0 in
-    let end = get_or_read mem.cuts (row + 1) c.index-2.result.now
+    let end = get_or_read table.cuts (row + 1) c.index-2.result.now
     (omega (arith, shape.cuts_size, shape.few)) c.index-2.ensures 0 in
     let ord = shape.order row c.requires.known in
     let upper : c.loop-k.k ≤ c.index-2.result.now = c.loop-k.auto.k-end (omega arith) in
@@ -76,12 +76,12 @@ returns-clause-size g c = omega arith
 
 pub index-requires-in-loop-k : goal.index-requires-in-loop-k
 index-requires-in-loop-k g c =
-    let mem = remembered c.args.self.now in
+    let table = dfa c.args.self.now in
     let row = c.args.row in
     let shape = c.requires.shape in
-    let start = get_or_read mem.cuts row c.index.result.now
+    let start = get_or_read table.cuts row c.index.result.now
     (omega (arith, shape.cuts_size, shape.few)) c.index.ensures 0 in
-    let end = get_or_read mem.cuts (row + 1) c.index-2.result.now
+    let end = get_or_read table.cuts (row + 1) c.index-2.result.now
     (omega (arith, shape.cuts_size, shape.few)) c.index-2.ensures 0 in
     let up = shape.upto (row + 1) (omega arith) in
     let rm = shape.room in
@@ -89,10 +89,10 @@ index-requires-in-loop-k g c =
 
 pub loop-k-init : goal.loop-k-init
 loop-k-init g c =
-    let mem = remembered c.args.self.now in
+    let table = dfa c.args.self.now in
     let row = c.args.row in
     let shape = c.requires.shape in
-    let start = get_or_read mem.cuts row c.index.result.now
+    let start = get_or_read table.cuts row c.index.result.now
     (omega (arith, shape.cuts_size, shape.few)) c.index.ensures 0 in
     record {
       loading = record {

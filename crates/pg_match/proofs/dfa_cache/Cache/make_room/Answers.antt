@@ -29,7 +29,7 @@ returns-clause-widened g c = λ t.
       more_states = omega (arith, pool_len);
       few = omega (arith, pool_len, start, shape.room, shape.pool_size);
       ends = refl;
-      fresh = refl;
+      flags = refl;
       cuts = refl;
       count = refl;
     }

@@ -6,5 +6,5 @@ returns-clause-marked g c =
     record {
       steps = refl;
       ends = refl;
-      sets = record { pool = refl; cuts = refl; fresh = refl; count = refl };
+      sets = record { pool = refl; cuts = refl; flags = refl; count = refl };
     }

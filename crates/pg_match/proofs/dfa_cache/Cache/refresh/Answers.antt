@@ -1,6 +1,6 @@
 use Rattle.std.proofs.Common.{length}
-use Rattle.pg_match.proofs.CacheLemmas.{blank_memory}
+use Rattle.pg_match.proofs.CacheLemmas.{blank_dfa}
 use Rattle.pg_match.proofs.dfa_cache.Cache.refresh.Goals as goal
 
 pub returns-then-self-ge-PATIENCE : goal.returns-then-self-ge-PATIENCE
-returns-then-self-ge-PATIENCE g c = λ m memory. blank_memory m _ (c.forget.ensures (length m.states) memory.shape)
+returns-then-self-ge-PATIENCE g c = λ m cache. blank_dfa m _ (c.forget.ensures (length m.states) cache.shape)

@@ -2,7 +2,7 @@ use Rattle.std.proofs.Common.{◌≡◌, ◌∙◌, [], Some, ap, length, subst,
 use Rattle.std.specs.Arc.{arc_value}
 use Rattle.pg_match.specs.Machines.{TellsEmpty}
 use Rattle.pg_match.specs.StateSets.{HaveRoom}
-use Rattle.pg_match.specs.Views.{nfa, buffers, Remembers}
+use Rattle.pg_match.specs.Views.{nfa, buffers, CachesDfaOf}
 use Rattle.pg_match.proofs.LineLemmas.{exact_for}
 use Rattle.pg_match.proofs.machine.Machine.selects_empty.Goals as goal
 
@@ -13,7 +13,7 @@ invariant_of-scratch-2 g c =
     ap nfa c.deref-automaton.ensures
     ∙ (c.self.view_is ∙ sym (ap (λ r. r.machine) c.scratch.view_is ∙ c.requires.fits)) in (
       subst (λ m. HaveRoom (buffers kept.sets) (length m.states)) same c.selects-answer.ensures.room,
-      subst (λ m. Remembers kept.memory m) same c.selects-answer.ensures.memory,
+      subst (λ m. CachesDfaOf kept.cache m) same c.selects-answer.ensures.cache,
       c.scratch.invariant.2,
       subst (λ m. TellsEmpty m (Some c.selects-answer.result)) same c.selects-answer.ensures.exact,
     )

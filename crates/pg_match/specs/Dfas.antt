@@ -1,4 +1,4 @@
--- Sets of states that are remembered, and where each byte leads from them.
+-- The DFA of an automaton, as far as it is known: sets of states, and where each byte leads from them.
 use Rattle.std.specs.Prelude.{◌≡◌, ◌≢◌, ℕ, ◌+◌, ◌*◌, ◌/◌, ◌<◌, ◌≤◌, ◌⊎◌, ◌↔◌, Bool, IsTrue, List, length, Option, Some}
 use Rattle.std.specs.Prelude.{None, slice_get, slice_index, slice_index_or, slice_set, true, false}
 use Rattle.pg_match.specs.Automata.{Nfa}
@@ -13,42 +13,44 @@ use Rattle.pg_match.specs.declared.dfa_search.Next.TheVariants.{Hit, Row, Lost, 
 use Rattle.pg_match.specs.declared.dfa_starts.Scan.{Scan}
 use Rattle.pg_match.specs.declared.dfa_starts.Scan.TheVariants.{NoHit, Known, Unknown}
 
--- Row r has the steps from 256 * r on, one for each byte, the r-th answer at a line's end, and whether it is fresh, and
--- its states lie between two cuts of the pool. Row 0 has no state, and row 1 is that of a line's first place.
-pub record Remembered : Type 0 where
+-- Row r has the steps from 256 * r on, one for each byte, the r-th answer at a line's end and the r-th flag, and its
+-- states lie between two cuts of the pool. Row 0 has no state. In the DFA of all runs row 1 is that of a line's first
+-- place.
+pub record Dfa : Type 0 where
   pub steps : List ℕ
   pub ends : List (Option Bool)
-  pub fresh : List Bool
+  pub flags : List Bool
   pub pool : List ℕ
   pub cuts : List ℕ
   pub count : ℕ
 
 -- where the states of row r begin in the pool, and those of the row before it end
-abbrev pub cut : Remembered → ℕ → ℕ
+abbrev pub cut : Dfa → ℕ → ℕ
 cut t r = slice_index t.cuts r
 
 -- the answer of row r at a line's end, if it is known
-abbrev pub ended : Remembered → ℕ → Option Bool
+abbrev pub ended : Dfa → ℕ → Option Bool
 ended t r = slice_index_or t.ends r None
 
--- row r is only for places where no run is left that began before them
-abbrev pub fresh_at : Remembered → ℕ → Bool
-fresh_at t r = slice_index_or t.fresh r false
+-- The flag of row r. In the DFA of all runs it says that the row is fresh: only for places where no run is left that
+-- began before them. In that of the runs of one start it says that a match may end at a place whose set the row is.
+abbrev pub flag_at : Dfa → ℕ → Bool
+flag_at t r = slice_index_or t.flags r false
 
 -- the state is in the set of row r
-abbrev pub In : Remembered → ℕ → ℕ → Type 0
+abbrev pub In : Dfa → ℕ → ℕ → Type 0
 In t r q = (j : ℕ) × (cut t r ≤ j) × (j < cut t (r + 1)) × (slice_index t.pool j ≡ q)
 
--- the same states
+-- two sets have the same states
 abbrev pub Same : (ℕ → Type 0) → (ℕ → Type 0) → Type 0
 Same S U = (q : ℕ) → (S q → U q) × (U q → S q)
 
 -- at most 256 sets of states below n, with the steps of each
-pub record IsShape (n : ℕ) (t : Remembered) : Type 0 where
+pub record IsShape (n : ℕ) (t : Dfa) : Type 0 where
   pub steps_size : 256 * (t.count + 1) ≤ length t.steps
   pub ends_size : length t.ends ≡ 257
   pub pool_size : length t.pool ≤ 1048576
-  pub fresh_size : length t.fresh ≡ 257
+  pub flags_size : length t.flags ≡ 257
   pub cuts_size : length t.cuts ≡ 258
   pub none : cut t 0 ≡ cut t 1
   pub few : t.count ≤ 256
@@ -68,14 +70,14 @@ IsUnknown v = (v < 256) × (v ≢ 1) × (v ≢ 2)
 
 -- what is known of a row and a byte: nothing, that a match ends before the byte, or that none does and which row is
 -- next, which is fresh only if no state of the row reads the byte
-abbrev pub Told : Nfa → Remembered → ℕ → ℕ → ℕ → Type 0
+abbrev pub Told : Nfa → Dfa → ℕ → ℕ → ℕ → Type 0
 Told m t r b v =
     IsUnknown v ⊎ (((v ≡ 1) × HitBefore m b (In t r)) ⊎ (((v ≡ 2) × IsHopeless m b (In t r))
     ⊎ ((k : ℕ) × (v ≡ 256 * k) × (1 ≤ k) × (k ≤ t.count) × (HitBefore m b (In t r) → ⊥) × Goes m b (In t r) (In t k)
-    × (fresh_at t k ≡ true → ReadsNone m b (In t r)))))
+    × (flag_at t k ≡ true → ReadsNone m b (In t r)))))
 
--- what is remembered is true of the automaton, for every line
-pub record IsMemoryOf (m : Nfa) (t : Remembered) : Type 0 where
+-- what is known of the DFA is true of the automaton, for every line
+pub record IsDfaOf (m : Nfa) (t : Dfa) : Type 0 where
   pub shape : IsShape (length m.states) t
   pub told : (r b : ℕ) → r ≤ t.count → b < 256 → Told m t r b (slice_index t.steps (256 * r + b))
   pub blank : (i : ℕ) → 256 * (t.count + 1) ≤ i → slice_index t.steps i ≡ 0
@@ -83,77 +85,77 @@ pub record IsMemoryOf (m : Nfa) (t : Remembered) : Type 0 where
       → (r ≤ t.count) × AnswersEnd m false (In t r) answer
   pub first : 1 ≤ t.count → Starts m true (In t 1)
 
--- a table without a set, for any automaton
-pub record IsBlank (t : Remembered) : Type 0 where
+-- a DFA of which no set is known, whatever the automaton
+pub record IsBlank (t : Dfa) : Type 0 where
   pub shape : (n : ℕ) → IsShape n t
   pub steps : (i : ℕ) → slice_index t.steps i ≡ 0
   pub ends : (r : ℕ) → ended t r ≡ None
   pub count : t.count ≡ 0
 
--- the rows of the old table stand in the new one
-pub record Keeps (old new : Remembered) : Type 0 where
+-- the rows of the old DFA stand in the new one, with their flags
+pub record Keeps (old new : Dfa) : Type 0 where
   pub sets : (r : ℕ) → r ≤ old.count → Same (In old r) (In new r)
-  pub fresh : (r : ℕ) → r ≤ old.count → fresh_at new r ≡ fresh_at old r
+  pub flags : (r : ℕ) → r ≤ old.count → flag_at new r ≡ flag_at old r
   pub more : old.count ≤ new.count
 
 -- memory for another row, of so many states
-pub record HasRoom (t : Remembered) (states : ℕ) : Type 0 where
+pub record HasRoom (t : Dfa) (states : ℕ) : Type 0 where
   pub few : t.count < 256
   pub steps : 256 * (t.count + 2) ≤ length t.steps
   pub pool : cut t (t.count + 1) + states ≤ length t.pool
 
--- the same table, with more memory behind its rows or not
-pub record Widened (old new : Remembered) : Type 0 where
+-- the new DFA has the rows, steps and answers of the old one, with more memory behind them or not
+pub record Widened (old new : Dfa) : Type 0 where
   pub steps : (i : ℕ) → slice_index new.steps i ≡ slice_index old.steps i
   pub pool : (i : ℕ) → slice_index new.pool i ≡ slice_index old.pool i
   pub more_steps : length old.steps ≤ length new.steps
   pub more_states : length old.pool ≤ length new.pool
   pub few : length new.pool ≤ 1048576
   pub ends : new.ends ≡ old.ends
-  pub fresh : new.fresh ≡ old.fresh
+  pub flags : new.flags ≡ old.flags
   pub cuts : new.cuts ≡ old.cuts
   pub count : new.count ≡ old.count
 
 -- the set was added as a row
-pub record Grown (n : ℕ) (old new : Remembered) (s : Members) (fresh : Bool) : Type 0 where
+pub record Grown (n : ℕ) (old new : Dfa) (s : Members) (flag : Bool) : Type 0 where
   pub shape : IsShape n new
   pub keeps : Keeps old new
   pub steps : (i : ℕ) → slice_index new.steps i ≡ slice_index old.steps i
   pub ends : new.ends ≡ old.ends
   pub count : new.count ≡ old.count + 1
   pub here : Same (Has s) (In new new.count)
-  pub fresh_here : fresh_at new new.count ≡ fresh
+  pub flag_here : flag_at new new.count ≡ flag
 
 -- the sets are the old ones
-pub record SameSets (old new : Remembered) : Type 0 where
-  pub fresh : new.fresh ≡ old.fresh
+pub record SameSets (old new : Dfa) : Type 0 where
+  pub flags : new.flags ≡ old.flags
   pub pool : new.pool ≡ old.pool
   pub cuts : new.cuts ≡ old.cuts
   pub count : new.count ≡ old.count
 
 -- a step was written
-pub record Marked (old new : Remembered) (i v : ℕ) : Type 0 where
+pub record Marked (old new : Dfa) (i v : ℕ) : Type 0 where
   pub steps : new.steps ≡ slice_set old.steps i v
   pub ends : new.ends ≡ old.ends
   pub sets : SameSets old new
 
 -- the answer at a line's end was written
-pub record MarkedEnd (old new : Remembered) (r : ℕ) (answer : Bool) : Type 0 where
+pub record MarkedEnd (old new : Dfa) (r : ℕ) (answer : Bool) : Type 0 where
   pub ends : new.ends ≡ slice_set old.ends r (Some answer)
   pub steps : new.steps ≡ old.steps
   pub sets : SameSets old new
 
 -- the state of a walk is 256 times a row
-pub record IsAtRow (t : Remembered) (state : ℕ) : Type 0 where
+pub record IsAtRow (t : Dfa) (state : ℕ) : Type 0 where
   pub row : state ≡ 256 * (state / 256)
   pub known : state / 256 ≤ t.count
 
 -- the row of a walk's state is the set of the place
-abbrev pub StandsAt : Nfa → Remembered → List ℕ → ℕ → ℕ → ℕ → Type 0
+abbrev pub StandsAt : Nfa → Dfa → List ℕ → ℕ → ℕ → ℕ → Type 0
 StandsAt m t l from p state = Stands m l from p (In t (state / 256))
 
 -- what was learned of a row and a byte
-abbrev pub Learned : Nfa → Remembered → Remembered → ℕ → ℕ → Members → Next → Type 0
+abbrev pub Learned : Nfa → Dfa → Dfa → ℕ → ℕ → Members → Next → Type 0
 Learned m old new r b s Hit = HitBefore m b (In old r)
 Learned m old new r b s (Row v) =
     IsAtRow new v × (HitBefore m b (In old r) → ⊥) × Goes m b (In old r) (In new (v / 256))
@@ -174,7 +176,7 @@ Finishes m b S answer =
     → IsTrue answer ↔ HasRun m l from
 
 -- the row of a walk's state is the set of the place, and no hit begins from one place on before another
-pub record HasScanned (m : Nfa) (t : Remembered) (l : List ℕ) (from p state start : ℕ) : Type 0 where
+pub record HasScanned (m : Nfa) (t : Dfa) (l : List ℕ) (from p state start : ℕ) : Type 0 where
   pub within : p < length l
   pub near : from ≤ p + 1
   pub row : IsAtRow t state
@@ -183,7 +185,7 @@ pub record HasScanned (m : Nfa) (t : Remembered) (l : List ℕ) (from p state st
   pub upto : start ≤ length l
   pub none : NoneBefore m l from start
 
--- What the remembered rows tell of the hits of a line from a place on: that there are none, or that none begins before
+-- What the rows tell of the hits of a line from a place on: that there are none, or that none begins before
 -- another place.
 abbrev pub Scanned : Nfa → List ℕ → ℕ → Scan → Type 0
 Scanned m l from NoHit = HasRun m l from → ⊥
@@ -191,7 +193,7 @@ Scanned m l from (Known start) = (from ≤ start) × (start ≤ length l) × Non
 Scanned m l from (Unknown start) = (from ≤ start) × (start ≤ length l) × NoneBefore m l from start
 
 -- the cursor's row is the set of its place, for the runs that began at `from` or behind it
-pub record IsCursor (m : Nfa) (t : Remembered) (l : List ℕ) (c : Cursor) : Type 0 where
+pub record IsCursor (m : Nfa) (t : Dfa) (l : List ℕ) (c : Cursor) : Type 0 where
   pub within : c.place < length l
   pub near : c.from ≤ c.place + 1
   pub row : IsAtRow t c.state
@@ -199,7 +201,7 @@ pub record IsCursor (m : Nfa) (t : Remembered) (l : List ℕ) (c : Cursor) : Typ
 
 -- What is found at a step that stopped a walk: whether there is a hit from the cursor's `from` on, or a cursor further
 -- on, where there is one if and only if there is one from its own `from` on.
-abbrev pub Crosses : Nfa → Remembered → List ℕ → Cursor → Crossing → Type 0
+abbrev pub Crosses : Nfa → Dfa → List ℕ → Cursor → Crossing → Type 0
 Crosses m t l c (Found answer) = IsTrue answer ↔ HasRun m l c.from
 Crosses m t l c (At next) =
     (c.place < next.place) × IsCursor m t l next × (HasRun m l c.from ↔ HasRun m l next.from)
