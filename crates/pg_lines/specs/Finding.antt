@@ -5,17 +5,17 @@ use Rattle.pg_blocks.specs.Lines.{AreShort}
 use Rattle.pg_selection.specs.Search.{SearchText, Pattern, AreTreesOf, search_of, terminator_of}
 use Rattle.pg_selection.specs.Selection.{has_hit}
 use Rattle.pg_lines.specs.Queries.{Compiled}
-use Rattle.pg_prefilter.specs.Strings.{AreBlockStrings}
+use Rattle.pg_prefilter.specs.Strings.{IsBlockJudge}
 use Rattle.pg_prefilter.specs.Candidates.{AreNeedles}
-use Rattle.pg_prefilter.specs.declared.strings.BlockStrings.{BlockStrings}
+use Rattle.pg_prefilter.specs.declared.strings.BlockJudge.{BlockJudge}
 use Rattle.pg_prefilter.specs.declared.needles.Needles.{Needles}
 
--- A block's bytes can be searched from a place on: strings and needles are the query's, the scratch is for its
--- automaton, and no line is too long.
-pub record CanSearch {A B : Type 0} (query : Compiled) (bytes : List ℕ) (sets : BlockStrings A) (sought : Needles B)
+-- A block's bytes can be searched from a place on: what judges its lines and the needles are the query's, the scratch
+-- is for its automaton, and no line is too long.
+pub record CanSearch {A B : Type 0} (query : Compiled) (bytes : List ℕ) (block : BlockJudge A) (sought : Needles B)
     (scratch : Room) (at : ℕ) : Type 0 where
   pub within : at ≤ length bytes
-  pub strings : AreBlockStrings query.text bytes sets
+  pub judge : IsBlockJudge query.text bytes block
   pub needles : AreNeedles query.text bytes at sought
   pub fits : Fits scratch query.machine
   pub short : AreShort (terminator_of query.text) (drop at bytes)

@@ -7,37 +7,37 @@ ghost use Rattle.pg_blocks.specs.Lines.{lines};
 ghost use Rattle.pg_selection.specs.Search.{Pattern, AreTreesOf, bounds_of, search_of, terminator_of};
 ghost use Rattle.pg_selection.specs.Selection.{selects, parts};
 ghost use Rattle.pg_selection.specs.BlockParts.{part_at};
-ghost use Rattle.pg_prefilter.specs.Strings.{AreBlockStrings, FindsPart, JudgesLine};
+ghost use Rattle.pg_prefilter.specs.Strings.{IsBlockJudge, FindsPart, JudgesLine};
 
 use crate::query::Query;
 use pg_blocks::{Span, text_of};
 use pg_match::Scratch;
-use pg_prefilter::{BlockStrings, NextString};
+use pg_prefilter::{BlockJudge, NextString};
 use pg_selection::Part;
 use std::alloc::{AllocError, Allocator};
 
 /// Of a line that stands at a place in its block the next match from a place of the line on, or from its end, as far as
-/// the query's strings tell.
-pub(crate) fn next_by_strings<A: Allocator>(
+/// what judges the block's lines can tell.
+pub(crate) fn next_by_judge<A: Allocator>(
     query: &Query<A>,
-    strings: &BlockStrings<'_, A>,
+    judge: &BlockJudge<'_, A>,
     line: &[u8],
     at: usize,
     from: usize,
 ) -> NextString
-    requires line { JudgesLine query.now.text strings.now line.now at }
+    requires line { JudgesLine query.now.text judge.now line.now at }
     requires from { from ≤ length line.now }
     ensures { (trees : List Pattern) → AreTreesOf query.now.text trees
         → FindsPart trees (bounds_of query.now.text) line.now from result }
 {
-    strings.next_part(query.text(), line, at, from)
+    judge.next_part(query.text(), line, at, from)
 }
 
-/// The next matched part of a line that stands at a place in its block: by the query's strings, where it has such, else
-/// by its automaton, from where a match may begin.
+/// The next matched part of a line that stands at a place in its block: by what judges the block's lines, or, where
+/// that can't tell, by the query's automaton, from where a match may begin.
 fn next_part<A: Allocator>(
     query: &Query<A>,
-    strings: &BlockStrings<'_, A>,
+    judge: &BlockJudge<'_, A>,
     scratch: &mut Scratch<A>,
     line: &[u8],
     at: usize,
@@ -45,7 +45,7 @@ fn next_part<A: Allocator>(
 ) -> Option<(usize, usize)>
     requires fits { Fits scratch.old query.now.machine }
     requires short { length line.now ≤ 2 ^ 30 }
-    requires line { JudgesLine query.now.text strings.now line.now at }
+    requires line { JudgesLine query.now.text judge.now line.now at }
     requires from { from ≤ length line.now }
     ensures fits { Fits scratch.new query.now.machine }
     ensures within { IfSome result (λ part. (from ≤ part.0) × (part.0 < part.1) × (part.1 ≤ length line.now)) }
@@ -54,7 +54,7 @@ fn next_part<A: Allocator>(
         (λ part. IsNext trees (bounds_of query.now.text) line.now from part.0 part.1) }
 {
     let machine = query.machine();
-    match next_by_strings(query, strings, line, at, from) {
+    match next_by_judge(query, judge, line, at, from) {
         NextString::Found(part) => Some((part.start, part.end)),
         NextString::Nowhere => None,
         NextString::Behind(place) => machine.next_part(scratch, line, place),
@@ -65,7 +65,7 @@ fn next_part<A: Allocator>(
 /// Keeps the matched parts of a line that stands at a place in its block, behind some lines.
 fn push_parts<A: Allocator>(
     query: &Query<A>,
-    strings: &BlockStrings<'_, A>,
+    judge: &BlockJudge<'_, A>,
     scratch: &mut Scratch<A>,
     line: &[u8],
     at: usize,
@@ -75,13 +75,13 @@ fn push_parts<A: Allocator>(
     requires fits { Fits scratch.old query.now.machine }
     requires short { length line.now ≤ 2 ^ 30 }
     requires within { at + length line.now < 2 ^ 63 }
-    requires line { JudgesLine query.now.text strings.now line.now at }
+    requires line { JudgesLine query.now.text judge.now line.now at }
     ensures fits { Fits scratch.new query.now.machine }
     ensures parts { (trees : List Pattern) → AreTreesOf query.now.text trees → OnOk result (found.new.items
         ≡ found.old.items ++ map (part_at at number) (parts (search_of query.now.text trees) line.now)) }
 {
     let mut place = 0;
-    while let Some((start, end)) = next_part(query, strings, scratch, line, at, place) {
+    while let Some((start, end)) = next_part(query, judge, scratch, line, at, place) {
         let span = Span {
             start: at + start,
             end: at + end,
@@ -96,7 +96,7 @@ fn push_parts<A: Allocator>(
 /// selected since nothing in it is matched has none.
 pub(crate) fn push_line_parts<A: Allocator>(
     query: &Query<A>,
-    strings: &BlockStrings<'_, A>,
+    judge: &BlockJudge<'_, A>,
     scratch: &mut Scratch<A>,
     bytes: &[u8],
     line: Span,
@@ -104,7 +104,7 @@ pub(crate) fn push_line_parts<A: Allocator>(
     found: &mut Vec<Part, A>,
 ) -> Result<(), AllocError>
     requires fits { Fits scratch.old query.now.machine }
-    requires strings { AreBlockStrings query.now.text bytes.now strings.now }
+    requires judge { IsBlockJudge query.now.text bytes.now judge.now }
     requires ordered { line.start ≤ line.end }
     requires within { line.end ≤ length bytes.now }
     requires one { (text : List ℕ) × (length text ≤ 2 ^ 30)
@@ -119,7 +119,7 @@ pub(crate) fn push_line_parts<A: Allocator>(
     let options = query.text();
     if options.with_parts && !options.invert {
         let text = text_of(query.terminator(), line.of(bytes));
-        push_parts(query, strings, scratch, text, line.start, number, found)
+        push_parts(query, judge, scratch, text, line.start, number, found)
     } else {
         Ok(())
     }

@@ -11,14 +11,14 @@ ghost use Rattle.pg_selection.specs.Selection.{has_hit};
 ghost use Rattle.pg_selection.specs.Searched.{IsFound};
 ghost use Rattle.pg_lines.specs.Queries.{IsCompiled};
 ghost use Rattle.pg_prefilter.specs.Literals.{AreLiterals, TellHeads, data_of};
-ghost use Rattle.pg_prefilter.specs.Strings.{AreBlockStrings, FindsPart, IsSetOf, JudgesLine};
+ghost use Rattle.pg_prefilter.specs.Strings.{IsBlockJudge, FindsPart, IsSetOf, JudgesLine};
 ghost use Rattle.pg_prefilter.specs.declared.strings.NextString.TheVariants.{Behind};
 ghost use Rattle.pg_prefilter.specs.Candidates.{AreNeedles, AreSome, IsNextSought, row_sought};
 ghost use Rattle.pg_prefilter.specs.NextHits.{HasNoNextHit, IsNextHit};
 ghost use Rattle.pg_lines.specs.Finding.{CanSearch};
 
 use crate::every_line::{hits_each_line, runs_of_each_line};
-use crate::parts::{next_by_strings, push_line_parts};
+use crate::parts::{next_by_judge, push_line_parts};
 use crate::query::Query;
 use crate::runs::{push_run, run_between, with_line};
 use memchr::memchr;
@@ -26,8 +26,8 @@ use pg_blocks::{Block, Span, count_lines, line_end, text_of};
 use pg_literal::Literal;
 use pg_match::Scratch;
 use pg_prefilter::{
-    BYTES_PER_CANDIDATE, BlockStrings, LiteralSet, Needles, NextLine, NextString, fixed_strings,
-    near_text,
+    BYTES_PER_CANDIDATE, BlockJudge, LineJudge, LiteralSet, Needles, NextLine, NextString,
+    fixed_strings, near_text,
 };
 use pg_selection::{BlockResult, Found, Run};
 use std::alloc::{AllocError, Allocator};
@@ -64,23 +64,23 @@ fn has_hit_behind<A: Allocator>(
     }
 }
 
-/// Whether some span of a line that stands at a place in the block is a hit: by the query's strings, where it has such,
-/// else by its automaton.
+/// Whether some span of a line that stands at a place in the block is a hit: by what judges the block's lines, or,
+/// where that can't tell, by the query's automaton.
 fn has_hit<A: Allocator>(
     query: &Query<A>,
-    strings: &BlockStrings<'_, A>,
+    judge: &BlockJudge<'_, A>,
     scratch: &mut Scratch<A>,
     line: &[u8],
     at: usize,
 ) -> bool
     requires fits { Fits scratch.old query.now.machine }
     requires short { length line.now ≤ 2 ^ 30 }
-    requires line { JudgesLine query.now.text strings.now line.now at }
+    requires line { JudgesLine query.now.text judge.now line.now at }
     ensures fits { Fits scratch.new query.now.machine }
     ensures hit { (trees : List Pattern) → AreTreesOf query.now.text trees →
         result ≡ has_hit (search_of query.now.text trees) line.now }
 {
-    match next_by_strings(query, strings, line, at, 0) {
+    match next_by_judge(query, judge, line, at, 0) {
         NextString::Found(_) => true,
         NextString::Nowhere => false,
         NextString::Behind(place) => has_hit_behind(query, scratch, line, place),
@@ -91,9 +91,9 @@ fn has_hit<A: Allocator>(
 /// Whether a line is told by what the automaton remembers: where there is nothing else to ask, and where a text stands
 /// near where each match begins but the line is so short that to look for the text takes longer. The line begins some
 /// bytes.
-fn asks_automaton<A: Allocator>(strings: &BlockStrings<'_, A>, end: u8, bytes: &[u8]) -> bool {
+fn asks_automaton<A: Allocator>(judge: &BlockJudge<'_, A>, end: u8, bytes: &[u8]) -> bool {
     let near = &bytes[..bytes.len().min(SHORT)];
-    strings.are_none() || strings.are_a_text() && memchr(end, near).is_some()
+    judge.is_nothing() || judge.is_near_text() && memchr(end, near).is_some()
 }
 
 /// Where the text of a line ends that goes on up to a place, at most the count of bytes: at its terminator, or where
@@ -114,7 +114,7 @@ fn text_end(end: u8, bytes: &[u8], place: usize) -> usize
 /// which looks for the line's end by the way.
 fn judge_line<A: Allocator>(
     query: &Query<A>,
-    strings: &BlockStrings<'_, A>,
+    judge: &BlockJudge<'_, A>,
     scratch: &mut Scratch<A>,
     bytes: &[u8],
     start: usize,
@@ -124,21 +124,21 @@ fn judge_line<A: Allocator>(
     requires start { start < length bytes.now }
     requires short { AreShort (terminator_of query.now.text) (drop start bytes.now) }
     requires lines { (stop : ℕ) → start ≤ stop → stop ≤ length bytes.now
-        → JudgesLine query.now.text strings.now (slice_range bytes.now start stop) at }
+        → JudgesLine query.now.text judge.now (slice_range bytes.now start stop) at }
     ensures fits { Fits scratch.new query.now.machine }
     ensures text { IsTextAt (terminator_of query.now.text) bytes.now start result.0 }
     ensures hit { (trees : List Pattern) → AreTreesOf query.now.text trees
         → result.1 ≡ has_hit (search_of query.now.text trees) (slice_range bytes.now start result.0) }
 {
     let end = query.terminator();
-    if asks_automaton(strings, end, &bytes[start..]) {
+    if asks_automaton(judge, end, &bytes[start..]) {
         if let Some(line) = query.machine().recall_line(scratch, end, &bytes[start..]) {
             return (text_end(end, bytes, start + line.read), line.has_hit);
         }
     }
     let stop = line_end(end, bytes, start);
     let line = &bytes[start..stop];
-    let has_hit = has_hit(query, strings, scratch, line, at);
+    let has_hit = has_hit(query, judge, scratch, line, at);
     (stop, has_hit)
 }
 
@@ -147,13 +147,13 @@ fn judge_line<A: Allocator>(
 #[inline(never)]
 fn next_matched<A: Allocator>(
     query: &Query<A>,
-    strings: &BlockStrings<'_, A>,
+    judge: &BlockJudge<'_, A>,
     scratch: &mut Scratch<A>,
     bytes: &[u8],
     at: usize,
 ) -> Option<Span>
     requires at { at ≤ length bytes.now }
-    requires strings { AreBlockStrings query.now.text bytes.now strings.now }
+    requires judge { IsBlockJudge query.now.text bytes.now judge.now }
     requires fits { Fits scratch.old query.now.machine }
     requires short { AreShort (terminator_of query.now.text) (drop at bytes.now) }
     ensures fits { Fits scratch.new query.now.machine }
@@ -163,7 +163,7 @@ fn next_matched<A: Allocator>(
     let rest = &bytes[at..];
     let mut start = 0;
     while start < rest.len() {
-        let (stop, has_hit) = judge_line(query, strings, scratch, rest, start, at + start);
+        let (stop, has_hit) = judge_line(query, judge, scratch, rest, start, at + start);
         let next = if stop < rest.len() { stop + 1 } else { stop };
         if has_hit {
             return Some(Span {
@@ -176,7 +176,8 @@ fn next_matched<A: Allocator>(
     None
 }
 
-/// The same, where the automaton alone is asked.
+/// The first line with a hit at or behind a place where a line starts, with its terminator. The automaton alone is
+/// asked.
 fn next_by_automaton<A: Allocator>(
     query: &Query<A>,
     scratch: &mut Scratch<A>,
@@ -190,8 +191,8 @@ fn next_by_automaton<A: Allocator>(
     ensures found { MatchOption result (HasNoNextHit query.now.text bytes.now at)
         (IsNextHit query.now.text bytes.now at) }
 {
-    let strings = BlockStrings::new(None, None, None, bytes);
-    next_matched(query, &strings, scratch, bytes, at)
+    let judge = BlockJudge::none();
+    next_matched(query, &judge, scratch, bytes, at)
 }
 
 /// How many lines held a needle and had no hit, with one more; without it there were fewer than 8. Where these are too
@@ -244,13 +245,13 @@ fn next_candidate<'n, A: Allocator>(
 #[inline(never)]
 fn next_confirmed<'n, A: Allocator>(
     query: &'n Query<A>,
-    strings: &BlockStrings<'_, A>,
+    judge: &BlockJudge<'_, A>,
     needles: &mut Needles<'n, A>,
     scratch: &mut Scratch<A>,
     bytes: &[u8],
     at: usize,
 ) -> Option<Span>
-    requires ready { CanSearch query.now bytes.now strings.now needles.old scratch.old at }
+    requires ready { CanSearch query.now bytes.now judge.now needles.old scratch.old at }
     requires some { AreSome needles.old }
     ensures needles { IfSome result (λ line. AreNeedles query.now.text bytes.now line.end needles.new) }
     ensures fits { Fits scratch.new query.now.machine }
@@ -275,14 +276,14 @@ fn next_confirmed<'n, A: Allocator>(
         };
         let line = found.line;
         let text = text_of(end, &bytes[line.start..line.end]);
-        if found.is_enough || has_hit(query, strings, scratch, text, line.start) {
+        if found.is_enough || has_hit(query, judge, scratch, text, line.start) {
             return Some(line);
         }
         let passed = (line.start - from) / BYTES_PER_CANDIDATE;
         in_vain = with_one_in_vain(query, needles, in_vain.saturating_sub(passed));
         from = line.end;
     }
-    next_matched(query, strings, scratch, bytes, from)
+    next_matched(query, judge, scratch, bytes, from)
 }
 
 /// The first line with a hit at or behind a place where a line starts, with its terminator: by the needles where there
@@ -290,13 +291,13 @@ fn next_confirmed<'n, A: Allocator>(
 #[inline(always)]
 fn next_hit<'n, A: Allocator>(
     query: &'n Query<A>,
-    strings: &BlockStrings<'_, A>,
+    judge: &BlockJudge<'_, A>,
     needles: &mut Needles<'n, A>,
     scratch: &mut Scratch<A>,
     bytes: &[u8],
     at: usize,
 ) -> Option<Span>
-    requires { CanSearch query.now bytes.now strings.now needles.old scratch.old at }
+    requires { CanSearch query.now bytes.now judge.now needles.old scratch.old at }
     ensures needles { IfSome result (λ line. AreNeedles query.now.text bytes.now line.end needles.new) }
     ensures fits { Fits scratch.new query.now.machine }
     ensures found { MatchOption result (HasNoNextHit query.now.text bytes.now at)
@@ -306,9 +307,9 @@ fn next_hit<'n, A: Allocator>(
         return next_by_automaton(query, scratch, bytes, at);
     }
     if needles.is_empty() {
-        next_matched(query, strings, scratch, bytes, at)
+        next_matched(query, judge, scratch, bytes, at)
     } else {
-        next_confirmed(query, strings, needles, scratch, bytes, at)
+        next_confirmed(query, judge, needles, scratch, bytes, at)
     }
 }
 
@@ -316,14 +317,14 @@ fn next_hit<'n, A: Allocator>(
 fn runs_of_hits<'n, A: Allocator + Copy>(
     alloc: A,
     query: &'n Query<A>,
-    strings: &BlockStrings<'_, A>,
+    judge: &BlockJudge<'_, A>,
     needles: &mut Needles<'n, A>,
     scratch: &mut Scratch<A>,
     bytes: &[u8],
 ) -> Result<Found<A>, AllocError>
     requires compiled { IsCompiled query.now }
     requires upright { query.now.text.invert ≡ false }
-    requires ready { CanSearch query.now bytes.now strings.now needles.old scratch.old 0 }
+    requires ready { CanSearch query.now bytes.now judge.now needles.old scratch.old 0 }
     ensures fits { Fits scratch.new query.now.machine }
     ensures found { IfOk result (IsFound query.now.text bytes.now) }
 {
@@ -335,10 +336,10 @@ fn runs_of_hits<'n, A: Allocator + Copy>(
         first: 0,
         count: 0,
     };
-    while let Some(line) = next_hit(query, strings, needles, scratch, bytes, run.span.end) {
+    while let Some(line) = next_hit(query, judge, needles, scratch, bytes, run.span.end) {
         run = with_line(&mut runs, run, end, bytes, line)?;
         let number = run.first + run.count - 1;
-        push_line_parts(query, strings, scratch, bytes, line, number, &mut parts)?;
+        push_line_parts(query, judge, scratch, bytes, line, number, &mut parts)?;
     }
     push_run(&mut runs, run)?;
     let lines = run.first + run.count + count_lines(end, &bytes[run.span.end..]);
@@ -349,14 +350,14 @@ fn runs_of_hits<'n, A: Allocator + Copy>(
 fn runs_between_hits<'n, A: Allocator + Copy>(
     alloc: A,
     query: &'n Query<A>,
-    strings: &BlockStrings<'_, A>,
+    judge: &BlockJudge<'_, A>,
     needles: &mut Needles<'n, A>,
     scratch: &mut Scratch<A>,
     bytes: &[u8],
 ) -> Result<Found<A>, AllocError>
     requires compiled { IsCompiled query.now }
     requires inverted { query.now.text.invert ≡ true }
-    requires ready { CanSearch query.now bytes.now strings.now needles.old scratch.old 0 }
+    requires ready { CanSearch query.now bytes.now judge.now needles.old scratch.old 0 }
     ensures fits { Fits scratch.new query.now.machine }
     ensures found { IfOk result (IsFound query.now.text bytes.now) }
 {
@@ -364,7 +365,7 @@ fn runs_between_hits<'n, A: Allocator + Copy>(
     let mut runs = Vec::new(alloc);
     let mut at = 0;
     let mut seen = 0;
-    while let Some(line) = next_hit(query, strings, needles, scratch, bytes, at) {
+    while let Some(line) = next_hit(query, judge, needles, scratch, bytes, at) {
         let run = run_between(end, bytes, at, line.start, seen);
         push_run(&mut runs, run)?;
         at = line.end;
@@ -383,20 +384,20 @@ fn runs_between_hits<'n, A: Allocator + Copy>(
 fn selected_runs<'n, A: Allocator + Copy>(
     alloc: A,
     query: &'n Query<A>,
-    strings: &BlockStrings<'_, A>,
+    judge: &BlockJudge<'_, A>,
     needles: &mut Needles<'n, A>,
     scratch: &mut Scratch<A>,
     bytes: &[u8],
 ) -> Result<Found<A>, AllocError>
     requires compiled { IsCompiled query.now }
-    requires ready { CanSearch query.now bytes.now strings.now needles.old scratch.old 0 }
+    requires ready { CanSearch query.now bytes.now judge.now needles.old scratch.old 0 }
     ensures fits { Fits scratch.new query.now.machine }
     ensures found { IfOk result (IsFound query.now.text bytes.now) }
 {
     if query.text().invert {
-        runs_between_hits(alloc, query, strings, needles, scratch, bytes)
+        runs_between_hits(alloc, query, judge, needles, scratch, bytes)
     } else {
-        runs_of_hits(alloc, query, strings, needles, scratch, bytes)
+        runs_of_hits(alloc, query, judge, needles, scratch, bytes)
     }
 }
 
@@ -446,12 +447,12 @@ fn search_by<A: Allocator + Copy>(
         return runs_of_each_line(alloc, query, bytes);
     }
     let found = query.prefilter();
-    let strings = BlockStrings::new(
+    let judge = LineJudge::first_of(
         fixed_strings(set),
-        near_text(options, literals, found.ignores_front(), found.reach()),
         found.suffix(),
-        searched,
+        near_text(options, literals, found.ignores_front(), found.reach()),
     );
+    let judge = BlockJudge::new(judge, searched);
     let mut needles = Needles::new(
         alloc,
         literals,
@@ -459,7 +460,7 @@ fn search_by<A: Allocator + Copy>(
         found.first_row(),
         searched,
     )?;
-    selected_runs(alloc, query, &strings, &mut needles, scratch, bytes)
+    selected_runs(alloc, query, &judge, &mut needles, scratch, bytes)
 }
 
 /// The runs of selected lines, their parts, and the number of all lines.

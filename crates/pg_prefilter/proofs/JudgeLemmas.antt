@@ -7,46 +7,39 @@ use Rattle.std.proofs.lemmas.List.{take-map, take-take, take_rest, drop-drop, le
 use Rattle.pg_literal.specs.Literals.{as_searched}
 use Rattle.pg_strings.specs.Outcomes.{strings_of}
 use Rattle.pg_selection.specs.Search.{SearchText}
-use Rattle.pg_prefilter.specs.Strings.{IsNear, AreStrings, IsSetOf, AreBlockStrings, JudgesLine}
+use Rattle.pg_prefilter.specs.Strings.{IsNear, AreStrings, IsSetOf, IsSuffixOf, IsBlockJudge, JudgesLine}
+use Rattle.pg_prefilter.specs.Strings.{IsJudgeOf, ReadsSearched, first_judge}
 use Rattle.pg_prefilter.specs.declared.literal_set.LiteralSet.{LiteralSet}
+use Rattle.pg_literal.specs.declared.suffix.LineSuffix.{LineSuffix}
 use Rattle.pg_strings.specs.declared.set.StringSet.{StringSet}
-use Rattle.pg_prefilter.specs.declared.strings.BlockStrings.{BlockStrings}
+use Rattle.pg_prefilter.specs.declared.strings.BlockJudge.{BlockJudge}
 use Rattle.pg_prefilter.specs.declared.strings.NearText.{NearText}
 use Rattle.pg_prefilter.proofs.NeedleLemmas.{searched_behind, searched_length}
-
--- what is known of a value, if there is one
-pub if_some_more : {X : Type 0} (P Q : X → Type 0) (o : Option X) → ((x : X) → P x → Q x) → IfSome o P → IfSome o Q
-if_some_more P Q None more h = tt
-if_some_more P Q (Some x) more h = more x h
 
 -- the front of a line, as it is searched
 pub take_searched : (fold : Bool) (n : ℕ) (xs : List ℕ) → take n (as_searched fold xs) ≡ as_searched fold (take n xs)
 take_searched false n xs = refl
 take_searched true n xs = take-map _ n xs
 
-module _ {A : Type 0} (text : SearchText) (bytes : List ℕ) (strings : BlockStrings A)
-    (are : AreBlockStrings text bytes strings) (line : List ℕ) (at : ℕ) where
+module _ {A : Type 0} (text : SearchText) (bytes : List ℕ) (strings : BlockJudge A)
+    (are : IsBlockJudge text bytes strings) (line : List ℕ) (at : ℕ) where
   -- a line that stands at a place of the bytes
   pub judges_line : at + length line ≤ length bytes → line ≡ take (length line) (drop at bytes)
       → JudgesLine text strings line at
   judges_line within is = record {
-    set = if_some_more _ _ strings.set (λ set known. let l = lies known.1 in (known.0, l.0, l.1)) are.set;
-    near = if_some_more _ _ strings.near (λ near known. let l = lies known.1 in (known.0, l.0, l.1)) are.near;
-    suffix = are.suffix;
+    judge = are.judge;
+    searched = λ reads.
+        let searched = strings.searched.now in
+        let folded = are.searched reads in
+        let behind = searched_behind text.fold bytes searched at folded (omega (arith, within)) in
+        let long = searched_length text.fold bytes searched folded in
+        let size : at + length line - at ≡ length line = omega arith in (
+          omega (arith, within, long),
+          ap (λ n. take n (drop at searched)) size
+              ∙ (ap (take (length line)) behind
+              ∙ (take_searched text.fold (length line) (drop at bytes) ∙ ap (as_searched text.fold) (sym is))),
+        );
   }
-    where
-      lies : strings.searched.now ≡ as_searched text.fold bytes → (at + length line ≤ length strings.searched.now)
-          × (slice_range strings.searched.now at (at + length line) ≡ as_searched text.fold line)
-      lies folded =
-          let searched = strings.searched.now in
-          let behind = searched_behind text.fold bytes searched at folded (omega (arith, within)) in
-          let long = searched_length text.fold bytes searched folded in
-          let size : at + length line - at ≡ length line = omega arith in (
-            omega (arith, within, long),
-            ap (λ n. take n (drop at searched)) size
-                ∙ (ap (take (length line)) behind
-                ∙ (take_searched text.fold (length line) (drop at bytes) ∙ ap (as_searched text.fold) (sym is))),
-          )
 
   -- the front of a part of the bytes
   pub judges_front : (stop : ℕ) → at ≤ stop → stop ≤ length bytes
@@ -59,8 +52,8 @@ module _ {A : Type 0} (text : SearchText) (bytes : List ℕ) (strings : BlockStr
       judges_line (omega (arith, low, high, short))
       (is ∙ take-take (length line) (stop - at) (drop at bytes) short)
 
-module _ {A : Type 0} (text : SearchText) (bytes : List ℕ) (strings : BlockStrings A)
-    (are : AreBlockStrings text bytes strings) (at start stop : ℕ) where
+module _ {A : Type 0} (text : SearchText) (bytes : List ℕ) (strings : BlockJudge A)
+    (are : IsBlockJudge text bytes strings) (at start stop : ℕ) where
   -- a line of what stands behind a place
   pub judges_behind : at ≤ length bytes → start ≤ stop → stop ≤ length bytes - at
       → JudgesLine text strings (slice_range (take (length bytes - at) (drop at bytes)) start stop) (at + start)
@@ -82,40 +75,36 @@ pub sought_known : {X : Type 0} (P : X → Type 0) (set sought : Option X) → (
 sought_known P set sought (inl same) known = subst (λ o. IfSome o P) (sym same) known
 sought_known P set sought (inr none) known = subst (λ o. IfSome o P) (sym none) tt
 
--- the strings of a set that are the patterns
-pub strings_known : {A : Type 0} (text : SearchText) (bytes searched seen : List ℕ) (set : Option (Bor (LiteralSet A)))
-    (found own : Option (Bor (StringSet A))) → IfSome set (λ x. IsSetOf text x.now)
-    → IfSome set (λ _. searched ≡ as_searched text.fold bytes)
-    → IfSome found (λ y. IsSomeAnd set (λ x. IsTrue x.now.is_fixed × (y.now ≡ x.now.strings)))
-    → own ≡ found → seen ≡ searched
-    → IfSome own (λ y. AreStrings text (strings_of y.now) × (seen ≡ as_searched text.fold bytes))
-strings_known {A} text bytes searched seen set found own known folded fixed same is =
-    let P : Option (Bor (StringSet A)) → Type 0 =
-    λ o. IfSome o (λ y. AreStrings text (strings_of y.now) × (seen ≡ as_searched text.fold bytes)) in
-    subst P (sym same) (go set found known folded fixed)
-  where
-    go : (set : Option (Bor (LiteralSet A))) (found : Option (Bor (StringSet A))) → IfSome set (λ x. IsSetOf text x.now)
-        → IfSome set (λ _. searched ≡ as_searched text.fold bytes)
-        → IfSome found (λ y. IsSomeAnd set (λ x. IsTrue x.now.is_fixed × (y.now ≡ x.now.strings)))
-        → IfSome found (λ y. AreStrings text (strings_of y.now) × (seen ≡ as_searched text.fold bytes))
-    go set None known folded fixed = tt
-    go None (Some y) known folded fixed = absurd fixed
-    go (Some x) (Some y) known folded fixed =
-        let Q : StringSet A → Type 0 = λ s. AreStrings text (strings_of s) in
-        (subst Q (sym fixed.1) (known.1 fixed.0), is ∙ folded)
+-- what two facts say of a value, of which one says that there is one
+said_by_both : {X : Type 0} (P Q : X → Type 0) (o : Option X) → IsSomeAnd o P → IfSome o Q → (x : X) × P x × Q x
+said_by_both P Q None some known = absurd some
+said_by_both P Q (Some x) some known = (x, some, known)
 
--- the text that stands near where hits begin, over the bytes as they are searched
-pub near_known : (text : SearchText) (bytes searched seen : List ℕ) (found own : Option NearText)
-    → (count : ℕ) → (0 < count → searched ≡ as_searched text.fold bytes)
-    → IfSome found (λ near. IsNear text near.finder near.before)
-    → IfSome found (λ _. 0 < count) → own ≡ found → seen ≡ searched
-    → IfSome own (λ near. IsNear text near.finder near.before × (seen ≡ as_searched text.fold bytes))
-near_known text bytes searched seen found own count folded near some same is =
-    subst (λ o. IfSome o (λ near. IsNear text near.finder near.before × (seen ≡ as_searched text.fold bytes)))
-    (sym same) (go found near some)
-  where
-    go : (found : Option NearText) → IfSome found (λ near. IsNear text near.finder near.before)
-        → IfSome found (λ _. 0 < count)
-        → IfSome found (λ near. IsNear text near.finder near.before × (seen ≡ as_searched text.fold bytes))
-    go None near some = tt
-    go (Some x) near some = (near, is ∙ folded some)
+module _ {A : Type 0} (set : Option (Bor (LiteralSet A))) where
+  -- the strings are those of the set, which are all patterns
+  abbrev pub AreOfSet : Bor (StringSet A) → Type 0
+  AreOfSet strings = IsSomeAnd set (λ x. IsTrue x.now.is_fixed × (strings.now ≡ x.now.strings))
+
+  -- the first of what was found of a query judges its lines
+  pub judge_known : (text : SearchText) (strings : Option (Bor (StringSet A)))
+      (suffix : Option (Bor (LineSuffix A))) (near : Option NearText) → IfSome set (λ x. IsSetOf text x.now)
+      → IfSome strings AreOfSet
+      → IfSome suffix (λ x. IsSuffixOf text x.now) → IfSome near (λ x. IsNear text x.finder x.before)
+      → IsJudgeOf text (first_judge strings suffix near)
+  judge_known text (Some y) suffix near known fixed ends stands =
+      let Are : StringSet A → Type 0 = λ s. AreStrings text (strings_of s) in
+      let both = said_by_both _ _ set fixed known in
+      subst Are (sym both.1.1) (both.2.1 both.1.0)
+  judge_known text None (Some x) near known fixed ends stands = ends
+  judge_known text None None (Some x) known fixed ends stands = stands
+  judge_known text None None None known fixed ends stands = tt
+
+  -- what is known where there is a set or a literal is known where strings or a text are looked for
+  pub judge_reads : (P : Type 0) (count : ℕ) (strings : Option (Bor (StringSet A)))
+      (suffix : Option (Bor (LineSuffix A))) (near : Option NearText) → IfSome strings AreOfSet
+      → IfSome near (λ _. 0 < count) → IfSome set (λ _. P) → (0 < count → P)
+      → ReadsSearched (first_judge strings suffix near) → P
+  judge_reads P count (Some y) suffix near fixed some many few reads = (said_by_both _ _ set fixed many).2
+  judge_reads P count None (Some x) near fixed some many few reads = absurd reads
+  judge_reads P count None None (Some x) fixed some many few reads = few some
+  judge_reads P count None None None fixed some many few reads = absurd reads

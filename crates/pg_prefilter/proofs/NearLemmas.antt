@@ -4,7 +4,7 @@ use Rattle.std.proofs.Common.{◌∷◌, length, get_or, take, drop, slice_range
 use Rattle.std.proofs.Common.{Bool, map, max, length-drop}
 use Rattle.std.specs.Option.{IfSome, MatchOption, is_some}
 use Rattle.std.specs.List.{All}
-use Rattle.std.proofs.lemmas.List.{drop-drop}
+use Rattle.std.proofs.lemmas.List.{take_rest}
 use Rattle.memchr.specs.Find.{OccursAt, FindsNeedle}
 use Rattle.pg_pattern.specs.Tests.{has_hit}
 use Rattle.pg_prefilter.proofs.HitLemmas.{hit_found, hit_missed}
@@ -25,57 +25,37 @@ use Rattle.pg_prefilter.proofs.JudgeLemmas.{take_searched}
 use Rattle.pg_prefilter.proofs.NeedleLemmas.{next_none, next_some, occurs_whole, searched_behind}
 use Rattle.pg_prefilter.proofs.StandingLemmas.{take_occurs}
 
--- what stands behind a place of a part
-drop_take : {X : Type 0} (k n : ℕ) (xs : List X) → k ≤ n → drop k (take n xs) ≡ take (n - k) (drop k xs)
-drop_take zero n xs low = let all : n ≡ n - 0 = omega arith in ap (λ m. take m xs) all
-drop_take (suc k) zero xs low = absurd (omega arith)
-drop_take {X} (suc k) (suc n) [] low = sym (take_none (suc n - suc k))
-  where
-    take_none : (m : ℕ) → take {A = X} m [] ≡ []
-    take_none zero = refl
-    take_none (suc m) = refl
-drop_take (suc k) (suc n) (x ∷ xs) low =
-    let left : n - k ≡ suc n - suc k = omega arith in
-    drop_take k n xs (omega arith) ∙ ap (λ m. take m (drop k xs)) left
-
 module _ (text : SearchText) (near : List ℕ) (before : ℕ) (is : IsNear text near before) (searched line : List ℕ)
-    (at from : ℕ) (same : slice_range searched at (at + length line) ≡ as_searched text.fold line)
-    (within : from ≤ length line) where
+    (from : ℕ) (same : searched ≡ as_searched text.fold line) (within : from ≤ length searched) where
   abbrev own : List ℕ
   own = as_searched text.fold line
 
-  -- the rest of the line, as it is searched
-  rest_of : slice_range searched (at + from) (at + length line) ≡ drop from own
-  rest_of =
-      let long : at + length line - at ≡ length line = omega arith in
-      let left : at + length line - (at + from) ≡ length line - from = omega arith in
-      let line_is : take (length line) (drop at searched) ≡ own =
-      ap (λ n. take n (drop at searched)) (sym long) ∙ same in
-      ap (λ n. take n (drop (at + from) searched)) left
-      ∙ (ap (take (length line - from)) (sym (drop-drop from at searched))
-      ∙ (sym (drop_take from (length line) (drop at searched) within) ∙ ap (drop from) line_is))
-
   low_own : from ≤ length own
-  low_own = omega (arith, within, length_searched text.fold line)
+  low_own = omega (arith, within, ap length same)
+
+  -- what was found in the rest of the line, in the line as it is searched
+  rest_of : (found : Option ℕ) → FindsNeedle (slice_range searched from (length searched)) near 0 found
+      → FindsNeedle (drop from own) near 0 found
+  rest_of found finds =
+      let Finds : List ℕ → Type 0 = λ xs. FindsNeedle xs near 0 found in
+      subst Finds (take_rest searched from ∙ ap (drop from) same) finds
 
   -- nothing begins where the text stands no more
-  pub near_nowhere : FindsNeedle (slice_range searched (at + from) (at + length line)) near 0 None
+  pub near_nowhere : FindsNeedle (slice_range searched from (length searched)) near 0 None
       → (trees : List Pattern) → AreTreesOf text trees → FindsPart trees (bounds_of text) line from Nowhere
   near_nowhere none trees spelled i j low hit =
-      let F : List ℕ → Type 0 = λ xs. FindsNeedle xs near 0 None in
       let h = is trees spelled line i j hit in
-      (next_none own near from low_own (subst F rest_of none)).1 h.1.0 (omega (arith, low, h.1.1)) h.1.3
+      (next_none own near from low_own (rest_of None none)).1 h.1.0 (omega (arith, low, h.1.1)) h.1.3
 
   -- nor so many bytes before the place where it stands next
   pub near_behind : (place next : ℕ) → next ≡ max from (from + place - before)
-      → FindsNeedle (slice_range searched (at + from) (at + length line)) near 0 (Some place)
+      → FindsNeedle (slice_range searched from (length searched)) near 0 (Some place)
       → (trees : List Pattern) → AreTreesOf text trees → FindsPart trees (bounds_of text) line from (Behind next)
   near_behind place next is_next found trees spelled =
-      let F : List ℕ → Type 0 = λ xs. FindsNeedle xs near 0 (Some place) in
-      let stands = next_some own near from place low_own (subst F rest_of found) in
+      let stands = next_some own near from place low_own (rest_of (Some place) found) in
       let fits = stands.0.fits in (
         omega (arith, is_next),
-        omega (arith, is_next, fits, within, length_searched text.fold line),
+        omega (arith, is_next, fits, low_own, length_searched text.fold line),
         λ i j low hit.
             let h = is trees spelled line i j hit in
             let later = stands.1 h.1.0 (omega (arith, low, h.1.1)) h.1.3 in

@@ -113,17 +113,19 @@ pub record IsNeedleList {A : Type 0} (text : SearchText) (bytes : List ℕ) (at 
   pub searched : 0 < length list.needles.items → list.searched.now ≡ as_searched text.fold bytes
   pub ahead : All (IsAhead list.searched.now at) list.needles.items
 
--- the same of many literals
+-- many literals of the search, and the bytes as they are searched for in them
 pub record IsNeedleSet {A : Type 0} (text : SearchText) (bytes : List ℕ) (set : NeedleSet A) : Type 0 where
   pub literals : AreLiterals text (set_literals set.literals.now)
   pub searched : set.searched.now ≡ as_searched text.fold bytes
 
--- the same of few literals or many
+-- few literals of the search, or many, the bytes as they are searched for in them, and where few of them stand from a
+-- place on
 abbrev pub AreLiteralNeedles : {A : Type 0} → SearchText → List ℕ → ℕ → LiteralNeedles A → Type 0
 AreLiteralNeedles text bytes at (Few list) = IsNeedleList text bytes at list
 AreLiteralNeedles text bytes at (Many set) = IsNeedleSet text bytes set
 
--- the same of literals, or of a row and the literals that may take its place; nothing is said where they were given up
+-- Needles are of the search: literals, or a row and the literals that may take its place. Nothing is said where they
+-- were given up or are too slow.
 abbrev pub AreNeedles : {A : Type 0} → SearchText → List ℕ → ℕ → Needles A → Type 0
 AreNeedles text bytes at (Literals needles) = AreLiteralNeedles text bytes at needles
 AreNeedles text bytes at (Row row) =
@@ -151,7 +153,7 @@ IsNextWith fold end literals at bytes (Found found) =
 IsNextWith fold end literals at bytes Nowhere = AreWithout fold end literals (drop at bytes)
 IsNextWith fold end literals at bytes GaveUp = Unit {0}
 
--- the same of a line that holds a finder's row
+-- The first line that holds a finder's row, in bytes from a place on, if there is one and the search wasn't given up.
 abbrev pub IsNextWithRow : {A : Type 0} → ℕ → RowFinder A → ℕ → List ℕ → NextLine → Type 0
 IsNextWithRow end finder at bytes (Found found) =
     (at ≤ found.line.start) × (found.line.start < found.line.end) × (found.line.end ≤ length bytes)
@@ -166,7 +168,7 @@ literals_sought (Row row) = []
 literals_sought GivenUp = []
 literals_sought TooSlow = []
 
--- those of needles, if there are such
+-- the literals of needles, if there are such needles
 abbrev pub literals_if_some : {A : Type 0} → Option (LiteralNeedles A) → List LiteralData
 literals_if_some None = []
 literals_if_some (Some needles) = literals_of needles

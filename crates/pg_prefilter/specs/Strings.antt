@@ -1,7 +1,8 @@
 -- Queries whose patterns are all fixed strings, or whose matches have a text near where they begin or are a line's end,
 -- and where these stand in a line (XCU grep, -F; GNU grep, -w and -o).
-use Rattle.std.specs.Prelude.{◌≡◌, ℕ, ◌+◌, ◌<◌, ◌≤◌, List, length, map, slice_range, IfSome}
-use Rattle.std.specs.Prelude.{Option, MatchOption, IsTrue}
+use Rattle.std.specs.Prelude.{◌≡◌, ℕ, ◌+◌, ◌<◌, ◌≤◌, List, length, map, slice_range}
+use Rattle.std.specs.Prelude.{Option, None, Some, MatchOption, IsTrue}
+use Rattle.std.specs.Borrow.{Bor}
 use Rattle.std.specs.List.{Any}
 use Rattle.memchr.specs.Find.{OccursAt}
 use Rattle.pg_pattern.specs.Bounds.{MayBegin, MayEnd}
@@ -13,10 +14,14 @@ use Rattle.pg_literal.specs.Rests.{IgnoresFront}
 use Rattle.pg_literal.specs.Suffixes.{IsSuffix, suffix_row}
 use Rattle.pg_literal.specs.declared.suffix.LineSuffix.{LineSuffix}
 use Rattle.pg_strings.specs.Outcomes.{strings_of}
+use Rattle.pg_strings.specs.declared.set.StringSet.{StringSet}
 use Rattle.pg_selection.specs.Search.{SearchText, Pattern, Bounds, Fixed, AreTreesOf, bounds_of, patterns}
 use Rattle.pg_prefilter.specs.Literals.{AreLiterals, set_literals}
 use Rattle.pg_prefilter.specs.declared.literal_set.LiteralSet.{LiteralSet}
-use Rattle.pg_prefilter.specs.declared.strings.BlockStrings.{BlockStrings}
+use Rattle.pg_prefilter.specs.declared.strings.BlockJudge.{BlockJudge}
+use Rattle.pg_prefilter.specs.declared.strings.LineJudge.{LineJudge}
+use Rattle.pg_prefilter.specs.declared.strings.LineJudge.TheVariants.{Strings, Suffix, Near, Nothing}
+use Rattle.pg_prefilter.specs.declared.strings.NearText.{NearText}
 use Rattle.pg_prefilter.specs.declared.strings.NextString.{NextString}
 use Rattle.pg_prefilter.specs.declared.strings.NextString.TheVariants.{Found, Nowhere, Behind, GaveUp}
 
@@ -93,22 +98,36 @@ abbrev pub IsSuffixOf : {A : Type 0} → SearchText → LineSuffix A → Type 0
 IsSuffixOf text suffix =
     (trees : List Pattern) → AreTreesOf text trees → IsSuffix trees (bounds_of text) (suffix_row suffix)
 
--- the strings of a query, the text that stands near where its hits begin, or the suffix that they are, if there are
--- such; and the bytes as they are searched for in them
-pub record AreBlockStrings {A : Type 0} (text : SearchText) (bytes : List ℕ) (strings : BlockStrings A) : Type 0 where
-  pub set : IfSome strings.set (λ set. AreStrings text (strings_of set.now)
-      × (strings.searched.now ≡ as_searched text.fold bytes))
-  pub near : IfSome strings.near (λ near. IsNear text near.finder near.before
-      × (strings.searched.now ≡ as_searched text.fold bytes))
-  pub suffix : IfSome strings.suffix (λ suffix. IsSuffixOf text suffix.now)
+-- the first that there is: strings, a suffix, a text that stands near where matches begin; or nothing
+abbrev pub first_judge : {A : Type 0} → Option (Bor (StringSet A)) → Option (Bor (LineSuffix A)) → Option NearText
+    → LineJudge A
+first_judge (Some set) suffix near = Strings set
+first_judge None (Some suffix) near = Suffix suffix
+first_judge None None (Some near) = Near near
+first_judge None None None = Nothing
 
--- the same, where the line stands at a place of the bytes
-pub record JudgesLine {A : Type 0} (text : SearchText) (strings : BlockStrings A) (line : List ℕ) (at : ℕ) : Type 0
+-- the strings are the query's patterns, the suffix is its hits, or the text stands near where they begin
+abbrev pub IsJudgeOf : {A : Type 0} → SearchText → LineJudge A → Type 0
+IsJudgeOf text (Strings set) = AreStrings text (strings_of set.now)
+IsJudgeOf text (Suffix suffix) = IsSuffixOf text suffix.now
+IsJudgeOf text (Near near) = IsNear text near.finder near.before
+IsJudgeOf text Nothing = Unit {0}
+
+-- the judge looks in the bytes as they are searched, as strings and a text do; a suffix is looked for in the line
+abbrev pub ReadsSearched : {A : Type 0} → LineJudge A → Type 0
+ReadsSearched (Strings set) = Unit {0}
+ReadsSearched (Suffix suffix) = ⊥
+ReadsSearched (Near near) = Unit {0}
+ReadsSearched Nothing = ⊥
+
+-- what judges the query's lines, and the bytes as it needs them
+pub record IsBlockJudge {A : Type 0} (text : SearchText) (bytes : List ℕ) (strings : BlockJudge A) : Type 0 where
+  pub judge : IsJudgeOf text strings.judge
+  pub searched : ReadsSearched strings.judge → strings.searched.now ≡ as_searched text.fold bytes
+
+-- what judges the query's lines, and the bytes as it needs them, in which the line stands at a place
+pub record JudgesLine {A : Type 0} (text : SearchText) (strings : BlockJudge A) (line : List ℕ) (at : ℕ) : Type 0
   where
-    pub set : IfSome strings.set (λ set. AreStrings text (strings_of set.now)
-        × (at + length line ≤ length strings.searched.now)
-        × (slice_range strings.searched.now at (at + length line) ≡ as_searched text.fold line))
-    pub near : IfSome strings.near (λ near. IsNear text near.finder near.before
-        × (at + length line ≤ length strings.searched.now)
-        × (slice_range strings.searched.now at (at + length line) ≡ as_searched text.fold line))
-    pub suffix : IfSome strings.suffix (λ suffix. IsSuffixOf text suffix.now)
+    pub judge : IsJudgeOf text strings.judge
+    pub searched : ReadsSearched strings.judge → (at + length line ≤ length strings.searched.now)
+        × (slice_range strings.searched.now at (at + length line) ≡ as_searched text.fold line)

@@ -2,8 +2,8 @@
 //!
 //! A [`Prefilter`] is what was found in a query's patterns: literals of which each line with a hit holds one, a row of
 //! sets that stands in each, a suffix that each match is. [`Needles`] are what is looked for in one block, so that only
-//! lines that hold it are looked at, and [`BlockStrings`] tell of such a line where its matches are, as far as that can
-//! be told without the automaton.
+//! lines that hold it are looked at, and a [`BlockJudge`] tells of such a line where its matches are, as far as that
+//! can be told without the automaton.
 #![tactic(auto)]
 
 mod candidate;
@@ -21,4 +21,4 @@ pub use candidate::{Candidate, NextLine};
 pub use literal_set::{LiteralSet, fixed_strings};
 pub use needles::{BYTES_PER_CANDIDATE, Needles};
 pub use prefilter::Prefilter;
-pub use strings::{BlockStrings, NearText, NextString, near_text};
+pub use strings::{BlockJudge, LineJudge, NearText, NextString, near_text};

@@ -79,7 +79,8 @@ impl<A: Allocator> Prefilter<A> {
         &self.literals
     }
 
-    /// The same texts, where there are more than 8, and whether they are all patterns.
+    /// The texts of which each line with a hit holds one, where there are more than 8, and whether they are all
+    /// patterns.
     pub fn literal_set(&self) -> Option<&LiteralSet<A>>
         ensures { (text : SearchText) → IsPrefilterOf text self.now → IfSome result (λ set. IsSetOf text set.now) }
     {
@@ -116,7 +117,7 @@ impl<A: Allocator> Prefilter<A> {
         self.row.as_ref()
     }
 
-    /// The same, if it costs less to look for than the literals.
+    /// A row that stands in each line with a hit, if it costs less to look for than the literals.
     pub fn first_row(&self) -> Option<&RowFinder<A>>
         ensures { (text : SearchText) → IsPrefilterOf text self.now → IfSome result (λ row. IsRowOf text row.now) }
     {
@@ -124,7 +125,8 @@ impl<A: Allocator> Prefilter<A> {
         if row.is_first { Some(row) } else { None }
     }
 
-    /// The same, if it costs as much or more: it may take the place of literals that stand in too many lines in vain.
+    /// A row that stands in each line with a hit, if it costs as much to look for as the literals, or more. It may take
+    /// the place of literals that stand in too many lines in vain.
     pub fn later_row(&self) -> Option<&RowFinder<A>>
         ensures { (text : SearchText) → IsPrefilterOf text self.now → IfSome result (λ row. IsRowOf text row.now) }
     {

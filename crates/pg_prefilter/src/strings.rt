@@ -1,11 +1,14 @@
 //! What judges lines before the automaton: the strings of a query whose patterns are all fixed strings, a text that
 //! stands near where each match begins, or a suffix of lines that each match is.
-ghost use Rattle.std.specs.Prelude.{◌≡◌, ◌↔◌, ◌+◌, ◌<◌, ◌≤◌, List, length, map, IfSome, IsTrue, None};
+ghost use Rattle.std.specs.Prelude.{◌≡◌, ◌↔◌, ◌<◌, ◌≤◌, List, ℕ, length, map, IfSome, IsTrue};
 ghost use Rattle.pg_strings.specs.Outcomes.{strings_of};
 ghost use Rattle.pg_selection.specs.Search.{SearchText, Pattern, Bounds, AreTreesOf, bounds_of};
 ghost use Rattle.pg_prefilter.specs.Literals.{AreLiterals, TellHeads, data_of};
+ghost use Rattle.pg_literal.specs.Literals.{as_searched};
 ghost use Rattle.pg_literal.specs.Suffixes.{IsSuffix, suffix_row};
 ghost use Rattle.pg_prefilter.specs.Strings.{IsLongestHit, FindsString, FindsPart, IsNear, IsReachOf, JudgesLine};
+ghost use Rattle.pg_prefilter.specs.Strings.{first_judge};
+ghost use Rattle.pg_prefilter.specs.declared.strings.LineJudge.TheVariants.{Nothing};
 
 use memchr::memmem::Finder;
 use pg_blocks::Span;
@@ -39,23 +42,40 @@ pub struct NearText<'s> {
     before: usize,
 }
 
-/// The strings by which the lines of a block are judged, if the query is one of fixed strings; or the text that stands
-/// near where each match begins, if there is one and it is of use; or the suffix that each match is; and the block's
-/// bytes.
-pub struct BlockStrings<'s, A: Allocator> {
-    set: Option<&'s StringSet<A>>,
-    near: Option<NearText<'s>>,
-    suffix: Option<&'s LineSuffix<A>>,
-    /// The block's bytes, where case is folded in lower case.
+/// What judges a line before the automaton does.
+pub enum LineJudge<'s, A: Allocator> {
+    /// The strings of a query whose patterns are all fixed strings.
+    Strings(&'s StringSet<A>),
+    /// The suffix of a line that each match is.
+    Suffix(&'s LineSuffix<A>),
+    /// A text that stands near where each match begins.
+    Near(NearText<'s>),
+    /// Nothing: the automaton alone is asked.
+    Nothing,
+}
+
+impl<'s, A: Allocator> Drop for LineJudge<'s, A> {
+    fn drop(self) {
+        match self {
+            LineJudge::Strings(_) => {}
+            LineJudge::Suffix(_) => {}
+            LineJudge::Near(_) => {}
+            LineJudge::Nothing => {}
+        }
+    }
+}
+
+/// What judges the lines of a block, and the block's bytes as it needs them.
+pub struct BlockJudge<'s, A: Allocator> {
+    judge: LineJudge<'s, A>,
+    /// The block's bytes in which strings and a text are looked for, in lower case where case is folded.
     searched: &'s [u8],
 }
 
-impl<'s, A: Allocator> Drop for BlockStrings<'s, A> {
+impl<'s, A: Allocator> Drop for BlockJudge<'s, A> {
     fn drop(self) {
-        let BlockStrings {
-            set: _,
-            near: _,
-            suffix: _,
+        let BlockJudge {
+            judge: _,
             searched: _,
         } = self;
     }
@@ -160,6 +180,23 @@ fn next_suffix<A: Allocator>(suffix: &LineSuffix<A>, line: &[u8], from: usize) -
     })
 }
 
+/// A place of a line, at or behind `from`, before which no match begins, as the next place of the text that stands near
+/// where each begins tells; or that there is none. The line is given as it is searched.
+fn next_near(near: &NearText<'_>, line: &[u8], from: usize) -> NextString
+    requires { from ≤ length line.now }
+    ensures { (text : SearchText) → IsNear text near.now.finder near.now.before
+        → (own : List ℕ) → line.now ≡ as_searched text.fold own → (trees : List Pattern) → AreTreesOf text trees
+        → FindsPart trees (bounds_of text) own from result }
+{
+    match near.finder.find(&line[from..]) {
+        Some(place) => {
+            let first = (from + place).saturating_sub(near.before);
+            NextString::Behind(from.max(first))
+        }
+        None => NextString::Nowhere,
+    }
+}
+
 /// The text that stands near where each match of a query begins, if the query has but this literal. Where parts of
 /// lines are asked for, that is one that each match begins with, or one within as many bytes as a match needs from
 /// where it begins, if that is known. Where they aren't, it is but the former, and only if the rest of a line tells
@@ -198,58 +235,63 @@ pub fn near_text<'l, A: Allocator>(
     })
 }
 
-impl<'s, A: Allocator> BlockStrings<'s, A> {
-    pub fn new(
+impl<'s, A: Allocator> LineJudge<'s, A> {
+    /// The first judge that is given: the strings, the suffix, the near text; or nothing. The near text comes last: it
+    /// tells where no match begins, and not where one does.
+    pub fn first_of(
         set: Option<&'s StringSet<A>>,
-        near: Option<NearText<'s>>,
         suffix: Option<&'s LineSuffix<A>>,
-        searched: &'s [u8],
-    ) -> BlockStrings<'s, A>
-        ensures set { result.set ≡ set.entry }
-        ensures near { result.near ≡ near.entry }
-        ensures suffix { result.suffix ≡ suffix.entry }
+        near: Option<NearText<'s>>,
+    ) -> LineJudge<'s, A>
+        ensures { result ≡ first_judge set.entry suffix.entry near.entry }
+    {
+        if let Some(set) = set {
+            return LineJudge::Strings(set);
+        }
+        if let Some(suffix) = suffix {
+            return LineJudge::Suffix(suffix);
+        }
+        match near {
+            Some(near) => LineJudge::Near(near),
+            None => LineJudge::Nothing,
+        }
+    }
+}
+
+impl<'s, A: Allocator> BlockJudge<'s, A> {
+    /// Judges the lines of a block so. `searched` has the block's bytes as they are searched.
+    pub fn new(judge: LineJudge<'s, A>, searched: &'s [u8]) -> BlockJudge<'s, A>
+        ensures judge { result.judge ≡ judge.entry }
         ensures searched { result.searched.now ≡ searched.now }
     {
-        BlockStrings {
-            set,
-            near,
-            suffix,
-            searched,
+        BlockJudge { judge, searched }
+    }
+
+    /// Nothing to look for: the automaton alone is asked.
+    pub fn none() -> BlockJudge<'s, A>
+        ensures { result.judge ≡ Nothing }
+    {
+        BlockJudge {
+            judge: LineJudge::Nothing,
+            searched: &[],
         }
     }
 
     /// Whether there is nothing to look for before the automaton is asked.
-    pub fn are_none(&self) -> bool
-        ensures { IsTrue result ↔ ((self.now.set ≡ None) × (self.now.near ≡ None) × (self.now.suffix ≡ None)) }
+    pub fn is_nothing(&self) -> bool
+        ensures { IsTrue result ↔ (self.now.judge ≡ Nothing) }
     {
-        self.set.is_none() && self.near.is_none() && self.suffix.is_none()
+        match &self.judge {
+            LineJudge::Nothing => true,
+            LineJudge::Strings(_) | LineJudge::Suffix(_) | LineJudge::Near(_) => false,
+        }
     }
 
     /// Whether there is but a text that stands near where each match begins.
-    pub fn are_a_text(&self) -> bool {
-        self.set.is_none() && self.suffix.is_none() && self.near.is_some()
-    }
-
-    /// A place of the line, from another one on, before which no match begins, since the text that stands near where
-    /// each begins next stands so far behind it; or that there is none.
-    fn next_near(&self, line: &[u8], at: usize, from: usize) -> NextString
-        requires line { IfSome self.now.near (λ _. at + length line.now ≤ length self.now.searched.now) }
-        requires from { from ≤ length line.now }
-        ensures { (text : SearchText) → JudgesLine text self.now line.now at → (trees : List Pattern)
-            → AreTreesOf text trees → FindsPart trees (bounds_of text) line.now from result }
-    {
-        match &self.near {
-            Some(near) => {
-                let rest = &self.searched[at + from..at + line.len()];
-                match near.finder.find(rest) {
-                    Some(place) => {
-                        let first = (from + place).saturating_sub(near.before);
-                        NextString::Behind(from.max(first))
-                    }
-                    None => NextString::Nowhere,
-                }
-            }
-            None => NextString::GaveUp,
+    pub fn is_near_text(&self) -> bool {
+        match &self.judge {
+            LineJudge::Near(_) => true,
+            LineJudge::Strings(_) | LineJudge::Suffix(_) | LineJudge::Nothing => false,
         }
     }
 
@@ -261,15 +303,14 @@ impl<'s, A: Allocator> BlockStrings<'s, A> {
         ensures { (trees : List Pattern) → AreTreesOf text.now trees
             → FindsPart trees (bounds_of text.now) line.now from result }
     {
-        match self.set {
-            Some(set) => {
+        match &self.judge {
+            LineJudge::Strings(set) => {
                 let searched = &self.searched[at..at + line.len()];
                 next_string(set, text.bounds(), searched, from)
             }
-            None => match self.suffix {
-                Some(suffix) => next_suffix(suffix, line, from),
-                None => self.next_near(line, at, from),
-            },
+            LineJudge::Suffix(suffix) => next_suffix(suffix, line, from),
+            LineJudge::Near(near) => next_near(near, &self.searched[at..at + line.len()], from),
+            LineJudge::Nothing => NextString::GaveUp,
         }
     }
 }

@@ -30,5 +30,5 @@ push_parts-requires-clause-line g c =
     let text = c.text_of-text.result.now in
     let Front : List ℕ → Type 0 = λ l. (text ≡ take (length text) l) × (length text ≤ length l) in
     let front = subst Front c.of.ensures (c.text_of-text.ensures.front, c.text_of-text.ensures.short) in
-    judges_front c.args.query.now.text c.args.bytes.now c.args.strings.now c.requires.strings text c.args.line.start
+    judges_front c.args.query.now.text c.args.bytes.now c.args.judge.now c.requires.judge text c.args.line.start
     c.args.line.end c.requires.ordered c.requires.within front.0 front.1

@@ -127,7 +127,7 @@ has_hit-requires-clause-line g c =
     let next = next_sought c.args.query.now.text c.args.bytes.now c.loop-in_vain.from c.next_candidate.new.needles _
     c.in-Found.ensures.needles c.in-Found.ensures.some c.in-Found.ensures.next in
     let text = c.text_of-text.ensures in
-    judges_front c.args.query.now.text c.args.bytes.now c.args.strings.now c.requires.ready.strings
+    judges_front c.args.query.now.text c.args.bytes.now c.args.judge.now c.requires.ready.judge
     c.text_of-text.result.now
     line.start line.end (omega (arith, next.1)) next.2 text.front text.short
 

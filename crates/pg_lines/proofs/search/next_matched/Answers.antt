@@ -77,5 +77,5 @@ judge_line-stop-requires-clause-lines g c = λ stop low high.
     let at = c.args.at in
     let long = ap length (take_rest bytes at) in
     let behind = length-drop at bytes in
-    judges_behind c.args.query.now.text bytes c.args.strings.now c.requires.strings at c.loop-start.start stop
+    judges_behind c.args.query.now.text bytes c.args.judge.now c.requires.judge at c.loop-start.start stop
     c.requires.at low (omega (arith, high, long, behind))

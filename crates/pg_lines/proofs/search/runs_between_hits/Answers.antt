@@ -88,7 +88,7 @@ next_hit-requires g c =
     let i = c.loop-line.invariant in
     record {
       within = i.within;
-      strings = c.requires.ready.strings;
+      judge = c.requires.ready.judge;
       needles = i.needles;
       fits = i.fits;
       short = i.short;

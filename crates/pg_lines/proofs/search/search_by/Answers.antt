@@ -1,8 +1,10 @@
-use Rattle.std.proofs.Common.{length, arith, map, subst, sym}
+use Rattle.std.proofs.Common.{◌≡◌, ◌∙◌, length, arith, map, subst, sym}
 use Rattle.std.specs.Prelude.{IfSome}
+use Rattle.std.proofs.lemmas.Option.{IfSome_then}
 use Rattle.pg_prefilter.specs.Literals.{AreLiterals, TellHeads, data_of}
-use Rattle.pg_prefilter.specs.Strings.{IsNear, IsReachOf, IsSetOf, IsSuffixOf}
-use Rattle.pg_prefilter.proofs.JudgeLemmas.{if_some_more, sought_known, strings_known, near_known}
+use Rattle.pg_literal.specs.Literals.{as_searched}
+use Rattle.pg_prefilter.specs.Strings.{IsJudgeOf, IsNear, IsReachOf, IsSetOf, ReadsSearched}
+use Rattle.pg_prefilter.proofs.JudgeLemmas.{judge_known, judge_reads, sought_known}
 use Rattle.pg_lines.proofs.search.search_by.Goals as goal
 
 pub near_text-requires-clause-heads : goal.near_text-requires-clause-heads
@@ -24,23 +26,26 @@ selected_runs-requires-clause-ready g c =
     let text = c.args.query.now.text in
     let bytes = c.args.bytes.now in
     let searched = c.args.searched.now in
-    let new = c.new-strings in
+    let set = c.args.set in
+    let fixed = c.fixed_strings in
+    let suffix = c.suffix in
+    let near = c.near_text in
+    let new = c.new-judge in
+    let first = new.ensures.judge ∙ c.first_of-judge.ensures in
+    let stands = subst (λ t. IfSome near.result (λ near. IsNear t near.finder near.before)) c.text-options.ensures.text
+    near.ensures.near in
     let sought = c.sought_set.ensures in
-    let known = if_some_more _ _ _ (λ set (of : IsSetOf text set.now). of.0) c.requires.set in
+    let known = IfSome_then set c.requires.set (λ set (of : IsSetOf text set.now). of.0) in
     record {
       within = omega arith;
-      strings = record {
-        set = strings_known text bytes searched new.result.searched.now c.args.set c.fixed_strings.result
-            new.result.set c.requires.set c.requires.set_searched c.fixed_strings.ensures new.ensures.set
-            new.ensures.searched;
-        near = near_known text bytes searched new.result.searched.now c.near_text.result new.result.near
-            (length c.args.literals.now) c.requires.searched
-            (subst (λ t. IfSome c.near_text.result (λ near. IsNear t near.finder near.before))
-            c.text-options.ensures.text c.near_text.ensures.near)
-            c.near_text.ensures.some
-            new.ensures.near new.ensures.searched;
-        suffix = subst (λ o. IfSome o (λ suffix. IsSuffixOf text suffix.now)) (sym new.ensures.suffix)
-            (c.suffix.ensures text c.prefilter-found.ensures);
+      judge = record {
+        judge = subst (IsJudgeOf text) (sym first)
+            (judge_known set text fixed.result suffix.result near.result c.requires.set fixed.ensures
+            (suffix.ensures text c.prefilter-found.ensures) stands);
+        searched = λ reads. new.ensures.searched
+            ∙ judge_reads set (searched ≡ as_searched text.fold bytes) (length c.args.literals.now) fixed.result
+            suffix.result near.result fixed.ensures near.ensures.some c.requires.set_searched c.requires.searched
+            (subst ReadsSearched first reads);
       };
       needles = c.in_ok-needles.ensures.needles text bytes c.requires.literals (sought_known _ _ _ sought known)
           (c.first_row.ensures text c.prefilter-found.ensures) c.requires.searched
