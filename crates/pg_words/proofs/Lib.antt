@@ -1,4 +1,5 @@
 pub mod Answered
+pub mod Anys
 pub mod Cases
 pub mod Cuts
 pub mod Examples

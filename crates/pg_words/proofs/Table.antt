@@ -1,11 +1,10 @@
 -- The rows of the code's table, by letter and by name.
 use Rattle.std.proofs.Common.{◌≡◌, ◌∙◌, ap, refl, sym, true, false, ℕ, Bool, List, [], ◌∷◌, map, Option, Some, None}
-use Rattle.std.proofs.Common.{◌++◌, ◌||◌, not, ap₂, ◌+◌, ◌<◌, drop, drop-cons, add-one, get_or, length}
+use Rattle.std.proofs.Common.{◌++◌, not, ap₂, ◌+◌, ◌<◌, drop, drop-cons, add-one, get_or, length}
 use Rattle.std.proofs.Common.{append-nil, append_assoc, is_some, option_map, true≢false, ◌≤◌}
 use Rattle.std.proofs.lemmas.List.{drop_all}
-use Rattle.clap.proofs.WalkLemmas.{both}
+use Rattle.clap.proofs.WalkLemmas.{both, list_any-map}
 use Rattle.clap.proofs.SimpleLemmas.{is_false}
-use Rattle.std.specs.List.{list_any}
 use Rattle.std.specs.Str.{bytes_eq}
 use Rattle.std.specs.Borrow.{Bor}
 use Rattle.clap.specs.Words.{App, AddsAliases, AddsArg, AddsInTurn, Rule, app_of, rule_of, with_rule}
@@ -40,19 +39,14 @@ same_value letter name others (behind.Text text) = refl
 same_value letter name others (behind.Number low high) = refl
 same_value letter name others behind.Itself = refl
 
-any_map : (p : Text → Bool) (others : List (Bor Text))
-    → list_any p (map (λ other. other.now) others) ≡ list_any (λ other. p other.now) others
-any_map p [] = refl
-any_map p (other ∷ others) = ap (λ (b : Bool). p other.now || b) (any_map p others)
-
 name_found_by : (n : Names) (own : Bor Text) (b : OptionValue) (rows : List OptionRow) (name : Text)
     → has_name (row n own b) name ≡ true
     → has_value_behind b ≡ takes_value (by_name (opts_of (row n own b ∷ rows)) name)
 name_found_by (names.Letter letter others) own b rows name e =
-    rw (any_map (λ (other : Text). bytes_eq other name) others.now, e)
+    rw (← list_any-map (λ (other : Text). bytes_eq other name) (λ other. other.now) others.now, e)
     (same_value (Some letter) own.now (map (λ other. other.now) others.now) b)
 name_found_by (names.Long others) own b rows name e =
-    rw (any_map (λ (other : Text). bytes_eq other name) others.now, e)
+    rw (← list_any-map (λ (other : Text). bytes_eq other name) (λ other. other.now) others.now, e)
     (same_value None own.now (map (λ other. other.now) others.now) b)
 name_found_by names.Place own b rows name e = cc
 
@@ -60,9 +54,9 @@ name_passed_by : (n : Names) (own : Bor Text) (b : OptionValue) (rows : List Opt
     → has_name (row n own b) name ≡ false
     → by_name (opts_of (row n own b ∷ rows)) name ≡ by_name (opts_of rows) name
 name_passed_by (names.Letter letter others) own b rows name e =
-    rw (any_map (λ (other : Text). bytes_eq other name) others.now, e) refl
+    rw (← list_any-map (λ (other : Text). bytes_eq other name) (λ other. other.now) others.now, e) refl
 name_passed_by (names.Long others) own b rows name e =
-    rw (any_map (λ (other : Text). bytes_eq other name) others.now, e) refl
+    rw (← list_any-map (λ (other : Text). bytes_eq other name) (λ other. other.now) others.now, e) refl
 name_passed_by names.Place own b rows name e = refl
 
 pub name_found : (r : OptionRow) (rows : List OptionRow) (name : Text) → has_name r name ≡ true
@@ -76,9 +70,9 @@ name_passed r rows name e = name_passed_by r.0 r.1 r.2 rows name e
 name_some_by : (n : Names) (own : Bor Text) (b : OptionValue) (rows : List OptionRow) (name : Text)
     → has_name (row n own b) name ≡ true → is_some (by_name (opts_of (row n own b ∷ rows)) name) ≡ true
 name_some_by (names.Letter letter others) own b rows name e =
-    rw (any_map (λ (other : Text). bytes_eq other name) others.now, e) refl
+    rw (← list_any-map (λ (other : Text). bytes_eq other name) (λ other. other.now) others.now, e) refl
 name_some_by (names.Long others) own b rows name e =
-    rw (any_map (λ (other : Text). bytes_eq other name) others.now, e) refl
+    rw (← list_any-map (λ (other : Text). bytes_eq other name) (λ other. other.now) others.now, e) refl
 name_some_by names.Place own b rows name e = cc
 
 -- ---- names that are cut short
@@ -87,18 +81,18 @@ begun_by : (n : Names) (own : Bor Text) (b : OptionValue) (rows : List OptionRow
     → has_begun_name (row n own b) start ≡ true
     → names_begun (opts_of (row n own b ∷ rows)) start ≡ own.now ∷ names_begun (opts_of rows) start
 begun_by (names.Letter letter others) own b rows start e =
-    rw (any_map (λ (other : Text). begins other start) others.now, e) refl
+    rw (← list_any-map (λ (other : Text). begins other start) (λ other. other.now) others.now, e) refl
 begun_by (names.Long others) own b rows start e =
-    rw (any_map (λ (other : Text). begins other start) others.now, e) refl
+    rw (← list_any-map (λ (other : Text). begins other start) (λ other. other.now) others.now, e) refl
 begun_by names.Place own b rows start e = absurd (true≢false (sym e ∙ and-false _))
 
 not_begun_by : (n : Names) (own : Bor Text) (b : OptionValue) (rows : List OptionRow) (start : Text)
     → has_begun_name (row n own b) start ≡ false
     → names_begun (opts_of (row n own b ∷ rows)) start ≡ names_begun (opts_of rows) start
 not_begun_by (names.Letter letter others) own b rows start e =
-    rw (any_map (λ (other : Text). begins other start) others.now, e) refl
+    rw (← list_any-map (λ (other : Text). begins other start) (λ other. other.now) others.now, e) refl
 not_begun_by (names.Long others) own b rows start e =
-    rw (any_map (λ (other : Text). begins other start) others.now, e) refl
+    rw (← list_any-map (λ (other : Text). begins other start) (λ other. other.now) others.now, e) refl
 not_begun_by names.Place own b rows start e = refl
 
 -- the name that was found so far

@@ -64,7 +64,7 @@ is_recursive (Some ReadDirectories) = Bool.false
 is_recursive (Some SkipDirectories) = Bool.false
 is_recursive (Some Recurse) = Bool.true
 
--- they are left out
+-- directories are left out (`-d skip`)
 abbrev pub skips_directories : Option DirectoryAction → Bool
 skips_directories None = Bool.false
 skips_directories (Some ReadDirectories) = Bool.false

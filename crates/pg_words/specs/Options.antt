@@ -57,7 +57,7 @@ are_several Several = true
 abbrev pub mode_table : List ModeOption → List (Text × Mode)
 mode_table rows = map (λ row. (row.0.now, row.1)) rows
 
--- they are options without a value
+-- the options of these modes have no value
 abbrev pub are_flags : List ModeOption → Bool
 are_flags rows = list_all (λ row. is_flag (own table row.0.now)) rows
 

@@ -6,24 +6,20 @@ ghost use Rattle.pg_words.specs.Line.{case_after, ignores_case, table, Use};
 
 use crate::command::letter_has_value;
 use crate::spell::letters_of;
-use crate::split::is_mark;
+use crate::split::words_before_mark;
 
 /// Whether the last of -i, --ignore-case and --no-ignore-case in joined words is one of the first two.
 pub(crate) fn ignores_case(words: &[String]) -> bool
     ensures { (us : List Use) → asked table (map string_bytes words.now) ≡ Some us → result ≡ ignores_case us }
 {
     let mut ignored = false;
-    for word in words {
-        let part = word.as_str();
-        if is_mark(part) {
-            return ignored;
-        }
-        ignored = case_behind(part, ignored);
+    for word in words_before_mark(words) {
+        ignored = case_behind(word.as_str(), ignored);
     }
     ignored
 }
 
-/// The same behind one of them, by what was said before it.
+/// Whether case is ignored behind a word, by whether it was before it.
 fn case_behind(part: &str, before: bool) -> bool
     ensures { (us : List Use) → word table part.now ≡ Some us → result ≡ case_after us before }
 {

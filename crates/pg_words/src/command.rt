@@ -272,7 +272,7 @@ fn row_of_letter_has_value(rows: &[OptionRow], letter: u8) -> bool
     false
 }
 
-/// The same of these rows.
+/// Whether this is the letter of an option behind which nothing stands, among these rows.
 fn row_of_letter_is_flag(rows: &[OptionRow], letter: u8) -> bool
     ensures { result ≡ is_flag (by_letter (opts_of rows.now) letter) }
 {
@@ -284,7 +284,7 @@ fn row_of_letter_is_flag(rows: &[OptionRow], letter: u8) -> bool
     false
 }
 
-/// The same of these rows.
+/// Whether the option of this long name takes a value, among these rows.
 fn row_of_name_has_value(rows: &[OptionRow], name: &str) -> bool
     ensures { result ≡ takes_value (by_name (opts_of rows.now) name.now) }
 {
@@ -296,7 +296,7 @@ fn row_of_name_has_value(rows: &[OptionRow], name: &str) -> bool
     false
 }
 
-/// The same of these rows.
+/// Whether one of these rows has this long name.
 fn row_is_called(rows: &[OptionRow], name: &str) -> bool
     ensures { result ≡ is_some (by_name (opts_of rows.now) name.now) }
 {
@@ -308,7 +308,7 @@ fn row_is_called(rows: &[OptionRow], name: &str) -> bool
     false
 }
 
-/// The same of these rows.
+/// The first long name of the option with a long name that begins so, if that is one option, among these rows.
 fn row_begun(rows: &[OptionRow], start: &str) -> Option<&'static str>
     ensures { option_map (λ name. name.now) result ≡ only_one (names_begun (opts_of rows.now) start.now) }
 {

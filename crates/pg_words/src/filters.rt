@@ -7,7 +7,7 @@ ghost use Rattle.pg_words.specs.Joined.{asked, word};
 ghost use Rattle.pg_words.specs.Line.{filters_in, table, Use};
 
 use crate::request::FileFilter;
-use crate::split::is_mark;
+use crate::split::words_before_mark;
 use std::alloc::{AllocError, Global};
 
 /// --include, --exclude and --exclude-from in joined words, in their order.
@@ -19,12 +19,8 @@ pub(crate) fn filters_of<'a>(
         → filters_of filters.items ≡ filters_in us) }
 {
     let mut filters = Vec::new(alloc);
-    for word in words {
-        let part = word.as_str();
-        if is_mark(part) {
-            return Ok(filters);
-        }
-        add_filter(&mut filters, part)?;
+    for word in words_before_mark(words) {
+        add_filter(&mut filters, word.as_str())?;
     }
     Ok(filters)
 }

@@ -89,12 +89,7 @@ fn modes_among(found: &ArgMatches<'_>, options: &[ModeOption]) -> GivenModes
 fn has_other_type(types: &[&str]) -> bool
     ensures { result ≡ has_other_type (map (λ name. name.now) types.now) }
 {
-    for name in types {
-        if *name != "text" {
-            return true;
-        }
-    }
-    false
+    types.iter().any(|name| *name != "text")
 }
 
 /// What a value of -d asks for.
@@ -116,12 +111,7 @@ fn directory_action(text: &str) -> Option<DirectoryAction>
 fn has_other_directory_action(values: &[&str]) -> bool
     ensures { result ≡ has_other_directory_action (map (λ value. value.now) values.now) }
 {
-    for value in values {
-        if directory_action(value).is_none() {
-            return true;
-        }
-    }
-    false
+    values.iter().any(|value| directory_action(value).is_none())
 }
 
 /// What the last of -d, -r and -R asks for, if one is given.
@@ -151,12 +141,7 @@ fn device_action(text: &str) -> Option<DeviceAction>
 fn has_other_action(values: &[&str]) -> bool
     ensures { result ≡ has_other_action (map (λ value. value.now) values.now) }
 {
-    for value in values {
-        if device_action(value).is_none() {
-            return true;
-        }
-    }
-    false
+    values.iter().any(|value| device_action(value).is_none())
 }
 
 /// What -D asks for, if it is given.
@@ -181,12 +166,7 @@ fn is_word(text: &str, word: &str) -> bool
 fn is_word_of(text: &str, words: &[&str]) -> bool
     ensures { result ≡ is_word_of (map (λ word. word.now) words.now) text.now }
 {
-    for word in words {
-        if is_word(text, word) {
-            return true;
-        }
-    }
-    false
+    words.iter().any(|word| is_word(text, word))
 }
 
 /// What a value of --color asks for.
@@ -208,24 +188,16 @@ fn coloring_by(text: &str) -> Option<Coloring>
 fn has_other_coloring(values: &[&str]) -> bool
     ensures { result ≡ has_other_coloring (map (λ value. value.now) values.now) }
 {
-    for value in values {
-        if coloring_by(value).is_none() {
-            return true;
-        }
-    }
-    false
+    values.iter().any(|value| coloring_by(value).is_none())
 }
 
 /// Whether one of the texts of --group-separator is too long.
 fn has_long_separator(texts: &[&str]) -> bool
     ensures { result ≡ has_long_separator (map (λ text. text.now) texts.now) }
 {
-    for text in texts {
-        if Separator::new(text.as_bytes()).is_none() {
-            return true;
-        }
-    }
-    false
+    texts
+        .iter()
+        .any(|text| Separator::new(text.as_bytes()).is_none())
 }
 
 /// What the last --color asks for.
@@ -280,7 +252,7 @@ fn number(found: &ArgMatches<'_>, name: &str) -> Option<u32>
     found.get_one(name)
 }
 
-/// The same, where it is small.
+/// The number that an option gives whose numbers fit a `u16`.
 fn small_number(found: &ArgMatches<'_>, name: &str) -> Option<u16>
     ensures { (us : List Use) → IsFound us (found_of found.now) → IsNumberUpTo u16.MAX name.now
         → result ≡ number_in name.now us }

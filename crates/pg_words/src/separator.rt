@@ -6,7 +6,7 @@ ghost use Rattle.pg_rows.specs.Separator.{separator_for};
 ghost use Rattle.pg_words.specs.Joined.{asked, word};
 ghost use Rattle.pg_words.specs.Line.{separator_after, separator_in, table, Use};
 
-use crate::split::is_mark;
+use crate::split::words_before_mark;
 use pg_rows::Separator;
 
 /// What the last of --group-separator and --no-group-separator in joined words asks for: a separator that can hold its
@@ -27,12 +27,8 @@ fn text_of(words: &[String]) -> Option<&str>
         → option_map (λ text. text.now) result ≡ separator_in us }
 {
     let mut last = Some("--");
-    for word in words {
-        let part = word.as_str();
-        if is_mark(part) {
-            return last;
-        }
-        last = text_behind(part, last);
+    for word in words_before_mark(words) {
+        last = text_behind(word.as_str(), last);
     }
     last
 }

@@ -1,7 +1,7 @@
 //! Words of a command line, joined so that the value of an option stands in the option's word.
 ghost use Rattle.std.specs.Prelude.{◌≡◌, ◌++◌, ◌∷◌, ◌<◌, ◌-◌, ◌==◌, true, IfOk, map, List, ℕ};
 ghost use Rattle.std.specs.Prelude.{◌+◌, false, slice_index, option_map, OnOk, []};
-ghost use Rattle.std.specs.List.{position_or_len};
+ghost use Rattle.std.specs.List.{before_first, position_or_len};
 ghost use Rattle.std.specs.String.{string_bytes};
 ghost use Rattle.clap.specs.Lexer.{has_byte};
 ghost use Rattle.pg_words.specs.Joined.{asked, behind_text, complete, joined_from, joined_word};
@@ -192,7 +192,7 @@ fn value_cut(word: &str) -> Option<(&str, &str)>
     letter_cut(word)
 }
 
-/// The same of a word behind two hyphens.
+/// The word, with no text behind it, where it is a long option that takes a value and has no `=`.
 fn long_cut(word: &str) -> Option<(&str, &str)>
     requires { (slice_index word.now 0 ≡ 45) × (slice_index word.now 1 ≡ 45) }
     ensures { option_map (λ cut. (cut.0.now, cut.1.now)) result ≡ value_cut table word.now }
@@ -214,7 +214,7 @@ fn has_equals(name: &str) -> bool
     name.as_bytes().contains(&b'=')
 }
 
-/// The same of a word behind one hyphen.
+/// A word that begins with one hyphen, cut behind the first letter whose option takes a value, if it has one.
 fn letter_cut(word: &str) -> Option<(&str, &str)>
     requires { (slice_index word.now 0 ≡ 45) × ((slice_index word.now 1 == 45) ≡ false) }
     ensures { option_map (λ cut. (cut.0.now, cut.1.now)) result ≡ value_cut table word.now }
@@ -224,6 +224,17 @@ fn letter_cut(word: &str) -> Option<(&str, &str)>
         return Some(word.split_at(start));
     }
     None
+}
+
+/// The words before `--`, or all of them where there is none.
+pub(crate) fn words_before_mark(words: &[String]) -> &[String]
+    ensures { result.now ≡ before_first (λ word. is_mark (string_bytes word)) words.now }
+{
+    let end = words
+        .iter()
+        .position(|word| is_mark(word.as_str()))
+        .unwrap_or(words.len());
+    &words[..end]
 }
 
 /// Whether the word is `--`.

@@ -1,11 +1,7 @@
-use Rattle.std.proofs.Common.{◌≡◌, drop, map, List, Some}
-use Rattle.std.specs.String.{string_bytes}
-use Rattle.pg_words.specs.Joined.{asked}
-use Rattle.pg_words.specs.Line.{case_after, ignores_case, table, Use}
+use Rattle.pg_words.specs.Line.{case_after}
+use Rattle.pg_words.proofs.Passes.{Goes}
+use Rattle.std.proofs.Common.{false}
 use Rattle.pg_words.proofs.case.ignores_case.Given as goal
 
 abbrev pub invariant-loop-word : goal.invariant-loop-word
-invariant-loop-word l =
-    (us : List Use) → asked table (map string_bytes l.words) ≡ Some us → (vs : List Use)
-    × (asked table (map string_bytes (drop l.word-index l.words)) ≡ Some vs)
-    × (case_after vs l.ignored ≡ ignores_case us)
+invariant-loop-word l = Goes case_after false l.words l.word-items l.word-index l.ignored

@@ -1,11 +1,8 @@
-use Rattle.std.proofs.Common.{◌≡◌, drop, map, List, Some, option_map}
-use Rattle.std.specs.String.{string_bytes}
-use Rattle.pg_words.specs.Joined.{asked}
-use Rattle.pg_words.specs.Line.{separator_after, separator_in, table, Use}
+use Rattle.std.proofs.Common.{Some, codes, option_map}
+use Rattle.pg_words.specs.Line.{separator_after}
+use Rattle.pg_words.proofs.Passes.{Goes}
 use Rattle.pg_words.proofs.separator.text_of.Given as goal
 
 abbrev pub invariant-loop-word : goal.invariant-loop-word
 invariant-loop-word l =
-    (us : List Use) → asked table (map string_bytes l.words) ≡ Some us → (vs : List Use)
-    × (asked table (map string_bytes (drop l.word-index l.words)) ≡ Some vs)
-    × (separator_after vs (option_map (λ text. text.now) l.last) ≡ separator_in us)
+    Goes separator_after (Some (codes "--")) l.words l.word-items l.word-index (option_map (λ text. text.now) l.last)
