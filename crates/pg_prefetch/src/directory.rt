@@ -16,6 +16,15 @@ const WORTH_WAKING: usize = 8;
 /// How many bytes between what different threads write keep them from sharing a line of the processor's cache.
 const LINE: usize = 64;
 
+/// How far another thread is with looking at an entry.
+#[derive(Drop)]
+pub(crate) enum Prefetch {
+    /// Nothing is there yet, or its slot doesn't hold the entry.
+    Pending,
+    /// What the thread has found out, if that could be told.
+    Done(Option<Found>),
+}
+
 /// Room for what was found out about an entry.
 struct Slot {
     /// One more than the entry that it holds, or 0.
@@ -43,16 +52,16 @@ impl Slot {
         self.holds.store(entry.saturating_add(1), Ordering::SeqCst);
     }
 
-    /// What was found out about an entry, if that is what it holds.
-    fn take<R: Wait>(&self, rt: &R, entry: usize) -> Option<Option<Found>> {
+    /// Takes what was found out about an entry, if the slot holds that entry.
+    fn take<R: Wait>(&self, rt: &R, entry: usize) -> Prefetch {
         if self.holds.load(Ordering::SeqCst) != entry.saturating_add(1) {
-            return None;
+            return Prefetch::Pending;
         }
         let mut guard = self.found.lock(rt);
         if self.holds.load(Ordering::SeqCst) == entry.saturating_add(1) {
-            Some(guard.take())
+            Prefetch::Done(guard.take())
         } else {
-            None
+            Prefetch::Pending
         }
     }
 }
@@ -203,7 +212,10 @@ impl Directory {
     }
 
     /// What was found out about an entry, once a thread has looked at it.
-    pub(crate) fn take<R: Wait>(&self, rt: &R, entry: usize) -> Option<Option<Found>> {
-        self.slot(entry)?.take(rt, entry)
+    pub(crate) fn take<R: Wait>(&self, rt: &R, entry: usize) -> Prefetch {
+        match self.slot(entry) {
+            Some(slot) => slot.take(rt, entry),
+            None => Prefetch::Pending,
+        }
     }
 }

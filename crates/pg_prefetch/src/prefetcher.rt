@@ -1,7 +1,7 @@
 //! What the thread that asks knows of the entries that are looked at ahead.
 ghost use Rattle.std.specs.Prelude.{◌≡◌, IfSome};
 
-use crate::directory::{Directory, WINDOW};
+use crate::directory::{Directory, Prefetch, WINDOW};
 use crate::found::Found;
 use crate::helper::PrefetchHelper;
 use crate::shared::Shared;
@@ -171,7 +171,7 @@ fn wait_for<R: Wait>(rt: &R, directory: &Directory, entry: usize) -> Option<Foun
         return None;
     }
     for _ in 0..MAX_POLLS {
-        if let Some(found) = directory.take(rt, entry) {
+        if let Prefetch::Done(found) = directory.take(rt, entry) {
             return found;
         }
     }

@@ -27,12 +27,12 @@ is_colored NeverColored terminal = false
 is_colored AlwaysColored terminal = true
 is_colored OnTerminal terminal = terminal
 
--- what is asked for there
+-- what is asked for, with rows colored or not by whether standard output is a terminal
 abbrev pub asked_on : (terminal : Bool) → Asked → Asked
 asked_on terminal asked =
     record asked { format = record asked.format { colored = is_colored asked.coloring terminal } }
 
--- and that rows are sent on there as each block or round was searched
+-- the pace, by which a terminal gets its rows as each block or round was searched
 abbrev pub paced_on : (terminal : Bool) → Pace → Pace
 paced_on terminal pace = record pace { line_buffered = pace.line_buffered || terminal }
 

@@ -7,6 +7,8 @@ use Rattle.pg_files.specs.Given.{FileOutcome, NoFile, File, is_output, shown_nam
 use Rattle.pg_request.specs.declared.fault.Fault.{Fault}
 use Rattle.pg_request.specs.declared.fault.Fault.TheVariants.{NotText, Usage, Unreadable, Pattern, TooLarge}
 use Rattle.pg_request.specs.declared.fault.Fault.TheVariants.{OutOfMemory, WriteFailed, TooManyFiles, LineTooLong}
+use Rattle.pg_request.specs.declared.patterns.ReadToEndFault.{ReadToEndFault}
+use Rattle.pg_request.specs.declared.patterns.ReadToEndFault.TheVariants as R
 
 -- The files at the paths were opened one after the other, each was read to its end, and they gave these contents.
 abbrev pub HasRead : List FileOutcome → List FileOutcome → List (List ℕ) → List (List ℕ) → Type 0
@@ -31,18 +33,13 @@ IsGivenUp path past past' =
     (past' ≡ past)
     ⊎ ((bytes : List ℕ) × (ending : Ending) × (is_failed ending ≡ false) × (past' ≡ File path bytes ending ∷ past))
 
--- The open file, which gave these bytes by now, was read to its end, or to a read that failed.
-abbrev pub IsReadBy : {T E : Type 0} → (path : List ℕ) → List FileOutcome → Result T E → List ℕ → List FileOutcome
-    → Type 0
-IsReadBy path past (Ok _) bytes past' = past' ≡ File path bytes Ended ∷ past
-IsReadBy path past (Err _) bytes past' = past' ≡ File path bytes Failed ∷ past
-
--- and so, or it was given up
-abbrev pub IsReadOrGivenUp : {T E F : Type 0} → (path : List ℕ) → List FileOutcome → Result (Result T E) F → List ℕ
+-- The open file, which gave these bytes by now, was read to its end, or to a read that failed; or it was given up.
+abbrev pub IsReadOrGivenUp : {T : Type 0} → (path : List ℕ) → List FileOutcome → Result T ReadToEndFault → List ℕ
     → List FileOutcome
     → Type 0
-IsReadOrGivenUp path past (Ok end) bytes past' = IsReadBy path past end bytes past'
-IsReadOrGivenUp path past (Err _) bytes past' = (got : List ℕ) × (past' ≡ File path got Left ∷ past)
+IsReadOrGivenUp path past (Ok _) bytes past' = past' ≡ File path bytes Ended ∷ past
+IsReadOrGivenUp path past (Err R.ReadFailed) bytes past' = past' ≡ File path bytes Failed ∷ past
+IsReadOrGivenUp path past (Err R.OutOfMemory) bytes past' = (got : List ℕ) × (past' ≡ File path got Left ∷ past)
 
 -- a path wasn't read to its end, by a fault that has its cause; there --label isn't heeded
 abbrev pub StopsAt : List ℕ → List FileOutcome → List FileOutcome → Fault → Type 0

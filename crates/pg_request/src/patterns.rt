@@ -7,6 +7,7 @@ ghost use Rattle.pg_base.specs.Entries.{Ended, Left};
 ghost use Rattle.pg_files.specs.Given.{FileOutcome, File, is_reading};
 ghost use Rattle.pg_words.specs.Filters.{filter_said, filters_of};
 ghost use Rattle.pg_request.specs.Asked.{glob_file, glob_files};
+ghost use Rattle.pg_request.specs.declared.patterns.ReadToEndFault.TheVariants.{ReadFailed, OutOfMemory};
 ghost use Rattle.pg_request.specs.Reading.{contents_of, FailsToReadAll, HasRead, IsReadOrGivenUp, StopsAt};
 
 use crate::fault::Fault;
@@ -98,19 +99,45 @@ fn read_file<'a, S: Store>(
         Err(OpenFault::OutOfMemory) => return Err(Fault::OutOfMemory),
     }
     let mut bytes = Vec::new(alloc);
-    match read_to_end(alloc, &mut bytes, store)? {
+    match read_to_end(alloc, &mut bytes, store) {
         Ok(()) => Ok(bytes),
-        Err(ReadFault) => Err(Fault::Unreadable(name, Cause::ReadFailed)),
+        Err(ReadToEndFault::ReadFailed) => Err(Fault::Unreadable(name, Cause::ReadFailed)),
+        Err(ReadToEndFault::OutOfMemory) => Err(Fault::OutOfMemory),
     }
 }
 
-/// Adds the bytes of the open file behind those that it gave before, to its end or to a read that fails. Neither was met
-/// before.
+/// Why a file isn't read to its end.
+#[derive(Clone, Copy)]
+enum ReadToEndFault {
+    /// A read failed.
+    ReadFailed,
+    /// A request for memory was refused.
+    OutOfMemory,
+}
+
+impl From<ReadFault> for ReadToEndFault {
+    ghost from_gives = { λ _ fault. fault ≡ ReadFailed };
+
+    fn from(_fault: ReadFault) -> ReadToEndFault {
+        ReadToEndFault::ReadFailed
+    }
+}
+
+impl From<AllocError> for ReadToEndFault {
+    ghost from_gives = { λ _ fault. fault ≡ OutOfMemory };
+
+    fn from(_error: AllocError) -> ReadToEndFault {
+        ReadToEndFault::OutOfMemory
+    }
+}
+
+/// Adds the bytes of the open file behind those that it gave before, to its end or to a read that fails. Neither was
+/// met before.
 fn read_to_end<S: Store>(
     alloc: Global,
     bytes: &mut Vec<u8>,
     store: &mut S,
-) -> Result<Result<(), ReadFault>, AllocError>
+) -> Result<(), ReadToEndFault>
     requires { is_reading (S.past store.old) ≡ true }
     ensures { (path : List ℕ) → (past : List FileOutcome) → S.past store.old ≡ File path bytes.old.items Left ∷ past →
         IsReadOrGivenUp path past result bytes.new.items (S.past store.new) }
@@ -119,23 +146,22 @@ fn read_to_end<S: Store>(
     read_by(&mut buffer, bytes, store)
 }
 
-/// The same by way of a buffer, which isn't empty.
+/// Adds the rest of the open file behind the bytes that it gave before, to its end or to a read that fails, by way of a
+/// buffer, which isn't empty. Neither was met before.
 fn read_by<S: Store>(
     buffer: &mut [u8],
     bytes: &mut Vec<u8>,
     store: &mut S,
-) -> Result<Result<(), ReadFault>, AllocError>
+) -> Result<(), ReadToEndFault>
     requires some { 0 < length buffer.old }
     requires reading { is_reading (S.past store.old) ≡ true }
     ensures { (path : List ℕ) → (past : List FileOutcome) → S.past store.old ≡ File path bytes.old.items Left ∷ past →
         IsReadOrGivenUp path past result bytes.new.items (S.past store.new) }
 {
     loop {
-        let Ok(count) = store.read(buffer) else {
-            return Ok(Err(ReadFault));
-        };
+        let count = store.read(buffer)?;
         if count == 0 {
-            return Ok(Ok(()));
+            return Ok(());
         }
         bytes.extend_from_slice(&buffer[..count])?;
     }
