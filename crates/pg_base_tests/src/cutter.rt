@@ -42,7 +42,7 @@ const CUT: &str = "%0A a%0Abc%0A%0Ad => 7.0:a%0Abc%0A 7.1:%0Ad
 %00 ab%0A c d %00 => (line too long) 7.0:ab%0Ac%00
 %FF a%FF%00b%FF%0A => 7.0:a%FF%00b%FF 7.1:%0A";
 
-/// The same, where the whole lines that are in no block are taken behind each piece.
+/// Pieces and the blocks that they give, where the whole lines that are in no block are taken behind each piece.
 const LINED: &str = "%0A a%0Abc%0A%0Ad => 7.0:a%0Abc%0A 7.1:%0A 7.2:d
 %0A a %0A b c %0A %0A d => 7.0:a%0A 7.1:bc%0A 7.2:%0A 7.3:d
 %0A a%0A bc%0A%0Ad => 7.0:a%0A 7.1:bc%0A 7.2:%0A 7.3:d

@@ -169,7 +169,8 @@ fn show_asked(alloc: Global, machine: &Machine, scratch: &mut Scratch, rest: &st
     }
 }
 
-/// The same for a machine of proper trees, with a scratch that is made for parts where the row asks for these.
+/// Shows what a machine of proper trees does as the rest of a row asks, with a scratch that is made for parts where the
+/// row asks for these.
 fn show_machine(alloc: Global, trees: &[Tree], bounds: Bounds, rest: &str, out: &mut String)
     requires { All IsProper (map pattern trees.now) }
 {
@@ -215,7 +216,7 @@ word :1 on :1 within 2 => (true, None)
 any ((((a{0}){255}){255}){255}){255}:1 on b:1 within 2 => (true, None)
 none :1 on a:1 within 2 => (false, None)";
 
-/// The same, and exactly how many states the first search visits, and the same search once more; then those for the
+/// Rows that tell exactly how many states the first search visits, and the same search once more; then those for the
 /// first matched part. `a` begins in one state, and behind it are that one and the end of the match; a part has its own
 /// run alone. `a*b` begins in three states, which it has behind each `a` too, and behind `b` it also has the end. `aa`
 /// has one state at each place of its run. With a scratch that is made for parts that run is learned, and then it
@@ -226,7 +227,7 @@ any a*b:1 on a:10000 counted => 12 0 0 0
 any aa:1 on xaa:1 counted => 7 0 3 3
 any aa:1 on xaa:1 counted with parts => 7 0 7 0";
 
-/// The same of trees that are deep or large. No machine has more than 65,536 states.
+/// Rows of trees that are deep or large. No machine has more than 65,536 states.
 const DEEP: &str = "any a:1 *:4095 on baab:1 within 327680 => (true, Some((1, 3)))
 any b:1 |a:2047 on cca:1 within 262144 => (true, Some((2, 3)))
 any b:1 ?:4095 on abb:1 within 262144 => (true, Some((1, 2)))

@@ -25,11 +25,11 @@ front_stays v n ws h =
     ∙ (take-append-le n (take n v.items) (behind ++ drop (length all) v.items) (omega (arith, front))
     ∙ take-take n n v.items (omega arith)))
 
--- so does their number
+-- a place within the items is so still once others are written from it on
 pub within_stays : {A : Type 0} (v : Vec ℕ A) (n : ℕ) (ws : List ℕ) → n ≤ length v.items → n ≤ length (written v n ws)
 within_stays v n ws h = omega (arith, h, v.ok.0, (with_items_from v n ws).ok.0)
 
--- and no block is finished in them where none was
+-- what stands before a place has no finished block once others are written from it on, where it had none before
 pub unfinished_stays : {A : Type 0} (end size : ℕ) (v : Vec ℕ A) (n : ℕ) (ws : List ℕ) → n ≤ length v.items
     → IsUnfinished end size (take n v.items) → IsUnfinished end size (take n (written v n ws))
 unfinished_stays end size v n ws h unfinished =

@@ -33,7 +33,7 @@ pub record IsSetup (tells : Type 0) (tree : Tree) (asked : Asked) (setup : Setup
 abbrev pub MayBeAll : Type 0 → Tree → Asked → (globs : List (List ℕ)) → List Found → Type 0
 MayBeAll tells tree asked globs items = ∥ IsWalk tells tree asked.files (scope_for asked globs) items ∥₁
 
--- these may be the names of all of them
+-- these may be the names of all items of a walk over the operands
 abbrev pub MayBeNames : Type 0 → Tree → Asked → (globs : List (List ℕ)) → List (List ℕ) → Type 0
 MayBeNames tells tree asked globs names =
     (items : List Found) × MayBeAll tells tree asked globs items × (names ≡ names_in (input_name asked) items)

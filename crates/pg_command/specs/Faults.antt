@@ -11,20 +11,20 @@ use Rattle.pg_request.specs.declared.fault.Fault.{Fault}
 use Rattle.pg_request.specs.declared.fault.Fault.TheVariants.{Pattern, TooLarge, OutOfMemory, WriteFailed}
 use Rattle.pg_request.specs.declared.fault.Fault.TheVariants.{TooManyFiles, LineTooLong}
 
--- those of its patterns
+-- a query's fault, as the program's
 abbrev pub fault_of_query : QueryFault → Fault
 fault_of_query (Syntax fault) = Pattern fault
 fault_of_query QueryTooLarge = TooLarge
 fault_of_query NoMemoryForQuery = OutOfMemory
 
--- those that end a run
+-- a run's fault, as the program's
 abbrev pub fault_of_run : RunFault → Fault
 fault_of_run NoMemoryToRun = OutOfMemory
 fault_of_run Sink = WriteFailed
 fault_of_run TooManyToRun = TooManyFiles
 fault_of_run TooLong = LineTooLong
 
--- all of them
+-- a search's fault, as the program's
 abbrev pub fault_of_search : SearchFault → Fault
 fault_of_search (Query fault) = fault_of_query fault
 fault_of_search (Run fault) = fault_of_run fault

@@ -97,9 +97,9 @@ fn show<W: Sink, E: Sink>(
 }
 
 /// Runs the command over the words of a call, or tells why the words couldn't be read. Nothing was asked of `files`
-/// yet, none of them was opened, and `out` and `err` took nothing. The answer is the exit status of the program: that of
-/// the command, or 2 where a fault was told, where there are no words, or where what standard output held back can't be
-/// sent on, which is part of success.
+/// yet, none of them was opened, and `out` and `err` took nothing. The answer is the exit status of the program: that
+/// of the command, or 2 where a fault was told, where there are no words, or where what standard output held back can't
+/// be sent on, which is part of success.
 pub fn run<
     't,
     R: Threads + Wait + Clock + Sync,

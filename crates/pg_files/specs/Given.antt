@@ -58,20 +58,20 @@ names_in input items = map (λ item. shown_name input (path_in item)) items
 abbrev pub AreGiven : List (List ℕ) → List FileOutcome → Type 0
 AreGiven names given = map name_of given ≡ reverse names
 
--- And these are the names of all that may be found.
+-- The names are all that may be found, and one file or miss was given for each, in their order, and nothing else.
 abbrev pub AllGiven : (List (List ℕ) → Type 0) → List FileOutcome → Type 0
 AllGiven finds given = (names : List (List ℕ)) × finds names × AreGiven names given
 
--- it gives no file because standard output goes there
+-- the name gives no file because standard output goes there
 abbrev pub is_output : FileOutcome → Bool
 is_output (NoFile name IsOutput) = true
 is_output _ = false
 
--- that is so only where such files are to be refused
+-- the name gives no file because standard output goes there only where such files are to be refused
 abbrev pub MaySpare : Bool → FileOutcome → Type 0
 MaySpare spares given = spares ≡ false → is_output given ≡ false
 
--- the name of the newest
+-- the name of the newest file or miss
 abbrev pub newest_name : List FileOutcome → List ℕ
 newest_name [] = []
 newest_name (NoFile name cause ∷ given) = name

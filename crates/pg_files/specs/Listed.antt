@@ -43,7 +43,7 @@ of_items items past = take (length (file_paths items)) past
 abbrev pub AreOpened : List Found → List FileOutcome → Type 0
 AreOpened items past = map name_of (of_items items past) ≡ file_paths items
 
--- none of them was refused because standard output goes there, unless that was asked for
+-- no item's file was refused because standard output goes there, unless that was asked for
 abbrev pub AreSpared : Bool → List Found → List FileOutcome → Type 0
 AreSpared spares items past = spares ≡ false → list_any is_output (of_items items past) ≡ false
 

@@ -49,7 +49,7 @@ Matches [] t = t ≡ []
 Matches (AnyBytes ∷ ps) t = (here : Text) × (rest : Text) × (t ≡ here ++ rest) × Matches ps rest
 Matches (OneOf set ∷ ps) t = (x : ℕ) × (rest : Text) × (t ≡ x ∷ rest) × (set x ≡ true) × Matches ps rest
 
--- the same, computed
+-- whether the pieces match all of the text, computed
 abbrev pub matches : List Piece → Text → Bool
 matches [] [] = true
 matches [] (x ∷ t) = false

@@ -84,7 +84,8 @@ HidesOthers rounds least most rest whole =
     ⊎ ((is_optional : Bool) × (IsTrue is_optional → (least ≡ rounds) × IfSome most (λ most. rounds ≤ most))
     × Hides is_optional rest whole)
 
--- the same, or they hide the rest with the last round in front of it
+-- The rounds of a repetition behind its first ones, if there may be any, hide the rest, optional where the first ones
+-- are enough; or they hide the rest with the last round in front of it.
 abbrev pub HidesLast : {A : Type 0} → Bool → Pattern → ℕ → ℕ → Option ℕ → MatchFacts A → MatchFacts A → Type 0
 HidesLast {A} fold p rounds least most rest whole =
     HidesOthers rounds least most rest whole

@@ -29,7 +29,7 @@ abbrev pub EndsWithin : Pattern → ℕ → Type 0
 EndsWithin p bytes =
     (line : List ℕ) (i j : ℕ) → Match p line i j → (k : ℕ) × (k ≤ i + bytes) × Match p line i k
 
--- it matches the same wherever it stands, and where a match begins, one ends within so many bytes
+-- the pattern matches the same wherever it stands, and where a match begins, one ends within so many bytes
 abbrev pub NeedsAtMost : ℕ → Pattern → Type 0
 NeedsAtMost bytes p = HasNoAnchor p × EndsWithin p bytes
 

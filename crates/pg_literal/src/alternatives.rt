@@ -57,7 +57,7 @@ fn united<A: Allocator>(
     Ok(Some(row))
 }
 
-/// The same of a row that there may be, and another one.
+/// The sets of two rows, united one by one, where the rows have as many; the other row where there is no first one.
 fn joined<A: Allocator + Copy>(
     alloc: A,
     row: Option<Vec<ByteSet, A>>,
@@ -103,7 +103,7 @@ fn common_row<A: Allocator + Copy>(
     Ok(found)
 }
 
-/// The same, where the rows of alternatives are to be united.
+/// The row of an alternation whose alternatives are rows of as many sets, as `common_row` finds it, if it is wanted.
 pub(crate) fn row_of_alternatives<A: Allocator + Copy>(
     alloc: A,
     tree: &Tree<A>,

@@ -15,10 +15,10 @@ pub const FEW_TEXTS: usize = 8;
 /// What it costs to pass a byte in the search for one of a few texts, in picoseconds.
 const ONE: usize = 60;
 
-/// The same for many texts, which are looked for together.
+/// What it costs to pass a byte in the search for many texts, which are looked for together.
 const MANY: usize = 700;
 
-/// The same for the automaton, which is asked about each line where there are no texts.
+/// What a byte costs the automaton, which is asked about each line where there are no texts.
 const NO_TEXT: usize = 1_250;
 
 /// What a line costs that holds a text, but may have no hit: the automaton reads it.
@@ -139,7 +139,7 @@ pub(crate) fn byte_cost(set: &ByteSet) -> usize {
     ONE.saturating_add(COMPARING.saturating_mul(chance_in(set) >> 16) >> 16)
 }
 
-/// The same in the search for bytes of two sets.
+/// What is paid for each byte that is passed in the search for bytes of two sets, and for trying a row there.
 pub(crate) fn sets_cost(near: CoveredSet, far: CoveredSet) -> usize {
     let first = chance_covered(near.cover);
     let second = if near.offset == far.offset {

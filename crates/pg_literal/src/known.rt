@@ -141,8 +141,8 @@ impl<A: Allocator + Copy> MatchFacts<A> {
         }
     }
 
-    /// The same of a set. What stands behind the repetition follows its last round, so that this one is part of the
-    /// row.
+    /// With all rounds of a repetition of a set in front but its first ones. What stands behind the repetition follows
+    /// its last round, so that this one is part of the row.
     fn with_other_sets(
         self,
         alloc: A,

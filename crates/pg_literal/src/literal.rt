@@ -145,7 +145,8 @@ pub(crate) fn cost_of<A: Allocator>(literals: &[Literal<A>]) -> usize {
     cost
 }
 
-/// The same, of which each tree gives so many texts as its rows may become, and each alternative.
+/// The literals of some trees; none where a tree has none. Each tree gives as many texts as its rows may become, and so
+/// does each alternative of an alternation.
 fn literals_of<A: Allocator + Copy>(
     alloc: A,
     trees: &[Tree<A>],

@@ -109,7 +109,7 @@ fn nearest_end<A: Allocator>(tree: &Tree<A>, depth: usize) -> Option<usize>
     }
 }
 
-/// The same, if no part of the tree asks for the line's begin or end.
+/// Within how many bytes of where a match begins one ends, if no part of the tree asks for the line's begin or end.
 fn reach_of<A: Allocator>(tree: &Tree<A>) -> Option<usize>
     ensures { IfSome result (λ reach. NeedsAtMost reach (pattern tree.now)) }
 {

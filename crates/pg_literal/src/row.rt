@@ -263,8 +263,8 @@ pub(crate) fn widest(row: &[ByteSet], expansion: Expansion) -> Window
     widest
 }
 
-/// The same, or the whole row where that is wanted and becomes few enough texts. Where it becomes many, and the part
-/// only a few, the part is looked for faster.
+/// The part of a row that serves best, or the whole row where that is wanted and becomes few enough texts. Where it
+/// becomes many, and the part only a few, the part is looked for faster.
 pub(crate) fn widest_or_whole(row: &[ByteSet], expansion: Expansion, is_wanted: bool) -> Window
     ensures ordered { result.start ≤ result.stop }
     ensures within { result.stop ≤ length row.now }

@@ -16,7 +16,8 @@ MayBegin Any line i = Unit {0}
 MayBegin Word line i = (i ≡ 0) ⊎ (is_word_byte (slice_index line (i - 1)) ≡ false)
 MayBegin Whole line i = i ≡ 0
 
--- the same for the end of a match: with -w no word byte follows, with -x nothing does
+-- any match counts; with -w one that no word byte follows; with -x one up to the end of the line (XCU grep, -x; GNU
+-- grep, -w)
 abbrev pub MayEnd : Bounds → List ℕ → ℕ → Type 0
 MayEnd Any line j = Unit {0}
 MayEnd Word line j = (j ≡ length line) ⊎ (is_word_byte (slice_index line j) ≡ false)

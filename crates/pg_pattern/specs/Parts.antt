@@ -12,7 +12,7 @@ pub data AreParts (patterns : List Pattern) (bounds : Bounds) (line : List ℕ) 
   more : {place i j : ℕ} {rest : List (ℕ × ℕ)} → IsNext patterns bounds line place i j
       → AreParts patterns bounds line j rest → AreParts patterns bounds line place ((i, j) ∷ rest)
 
--- The same by looking at each span.
+-- The parts as they are found by looking at each span.
 
 -- the end of the longest hit from a place that isn't empty and has at most n bytes
 abbrev pub longest_hit : List Pattern → Bounds → List ℕ → ℕ → ℕ → Option ℕ

@@ -21,6 +21,6 @@ node (Tree-F.Rep a m n) = P.Rep a.value m n
 abbrev pub pattern : {A : Type 0} → Tree A → Pattern
 pattern {A} = fold-Tree A Pattern node
 
--- the same for a tree that may be missing
+-- the pattern of a tree that may be missing
 abbrev pub pattern_of : {A : Type 0} → Option (Tree A) → Option Pattern
 pattern_of = option_map pattern

@@ -7,7 +7,7 @@ use Rattle.pg_rows.specs.Trail.{no_lines, run}
 pub use Rattle.pg_rows.specs.Cursor.{Cursor, at_start, block_rows, counted, named}
 use Rattle.pg_plan.specs.Plan.{Step, Opens, Announces, Ends, Misses}
 
--- where it stands behind one more step
+-- where the cursor stands behind one more step
 abbrev pub moved : Search → Format → Cursor → Step → Cursor
 moved q format c (Opens name) = record { earlier = c.earlier || c.trail.some; name = name; trail = no_lines }
 moved q format c (Announces b) = record c { trail = run q format c.trail (lines (terminator q) b.bytes) }

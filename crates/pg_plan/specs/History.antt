@@ -105,13 +105,15 @@ front_after q events = front (taken_of q events) (plan_of events)
 unfoldable pub handed_after : Search → Format → List Event → List ℕ
 handed_after q format events = output q format (entries_of (front_after q events))
 
--- the same of a past, whatever was written
+-- what an arrival is behind a past, whatever was written
 abbrev pub answer : Past → SearchedBlock → Arrival
 answer past r = answer_after past.query past.events r
 
+-- how far the front of a past's plan has come
 abbrev pub front_of : Past → List Step
 front_of past = front_after past.query past.events
 
+-- what may be handed out behind a past, whatever was written
 abbrev pub handed : Past → List ℕ
 handed past = handed_after past.query past.format past.events
 

@@ -58,14 +58,15 @@ pub record IsSmall (end : ℕ) (plan : List Step) (block : BlockData) : Type 0 w
   pub short : AllByRecursion (λ l. length l ≤ 2 ^ 30) (lines end block.bytes)
   pub small : length (joined (last_blocks plan)) + length block.bytes ≤ 2 ^ 62
 
--- the step may follow on the plan, as to its kind
+-- the step has its place: a file opens or a name is missed where none is open, a file ends where one is, and a block is
+-- the open file's next
 abbrev pub HasPlace : ℕ → List Step → Step → Type 0
 HasPlace end plan (Opens name) = is_open plan ≡ false
 HasPlace end plan (Announces block) = IsNextOfFile end plan block
 HasPlace end plan (Ends failed) = is_open plan ≡ true
 HasPlace end plan (Misses name) = is_open plan ≡ false
 
--- and as to its numbers
+-- the step leaves the plan within its limits: fewer than 2^32 files, and no line or file that is too long
 abbrev pub IsWithinLimits : ℕ → List Step → Step → Type 0
 IsWithinLimits end plan (Opens name) = opened plan < 2 ^ 32 - 1
 IsWithinLimits end plan (Announces block) = IsSmall end plan block

@@ -44,7 +44,7 @@ abbrev pub lines_of : (texts : List (List ℕ)) → Fault → List ℕ
 lines_of texts (Pattern fault) = lines_of_pattern (shown_text texts fault) fault
 lines_of texts fault = line_of fault
 
--- it is about neither a file nor a pattern
+-- the fault is about neither a file nor a pattern
 abbrev pub IsPlain : Fault → Type 0
 IsPlain (Unreadable name cause) = ⊥
 IsPlain (Pattern fault) = ⊥
@@ -54,10 +54,10 @@ IsPlain fault = Unit {0}
 abbrev pub TellsText : List ℕ → Stream → Stream → Type 0
 TellsText text err err' = WritesAll text err err' ⊎ WritesPart text err err'
 
--- and so the lines of a fault of a search
+-- the lines of a fault of a search were written; or a beginning of them, and standard error failed
 abbrev pub TellsOfSearch : (texts : List (List ℕ)) → Fault → Stream → Stream → Type 0
 TellsOfSearch texts fault = TellsText (lines_of texts fault)
 
--- and so the fault's line
+-- the line of a fault was written; or a beginning of it, and standard error failed
 abbrev pub TellsFault : Fault → Stream → Stream → Type 0
 TellsFault fault = TellsText (line_of fault)

@@ -96,7 +96,7 @@ fn search_beside<
     Ok((counts.found, round.scratches.len()))
 }
 
-/// The same, where there is nothing to read.
+/// Searches a round of so many blocks, where there is nothing to read.
 fn search_some<R: Threads + Wait + Clock + Sync, A: Allocator + Copy + Send + Sync, G: Gate + Sync>(
     rt: &R,
     alloc: A,

@@ -38,7 +38,7 @@ abbrev pub is_enough : Search → Format → List Entry → Bool
 is_enough q format entries =
     if is_quiet format.mode then list_any (has_selected q) entries else file_suffices q format entries
 
--- the same for code that reads line by line: by what is remembered of the open file's lines
+-- the open file's lines suffice, by what is remembered of them in reading line by line
 abbrev pub trail_suffices : Mode → Format → Trail → Bool
 trail_suffices mode format t =
     let full = not (is_below t.kept format.limit) in

@@ -5,7 +5,7 @@ use Rattle.std.specs.Prelude.{ℕ}
 abbrev pub colon : ℕ
 colon = 58
 
--- the same before a line of context
+-- what follows a name, a number or an offset before a line of context
 abbrev pub hyphen : ℕ
 hyphen = 45
 

@@ -128,7 +128,7 @@ is_behind set (suc i) = set i
 abbrev pub gap_text : Format → ℕ → List ℕ
 gap_text format end = in_color format.colored mark_color (text_between format.separator) ++ end ∷ []
 
--- such a row stands before a shown line that doesn't follow a shown line, unless it is the run's first
+-- the row between groups stands before a shown line that doesn't follow a shown line, unless it is the run's first
 abbrev pub separator : Format → ℕ → (ℕ → Bool) → Bool → ℕ → List ℕ
 separator format end shown earlier i =
     when (has_separators format && not (is_behind shown i) && (earlier || list_any shown (range_with_len 0 i)))

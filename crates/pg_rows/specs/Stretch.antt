@@ -54,7 +54,7 @@ prefix_text format name number offset mark has_text =
     ++ when format.offsets (number_text format mark offset)
     ++ tab_before format has_text
 
--- the same without colors
+-- what a row without colors has before its text, where it has a text or not
 abbrev pub plain_prefix_text : Format → List ℕ → (number offset mark : ℕ) → Bool → List ℕ
 plain_prefix_text format name number offset mark has_text =
     when format.names (name ++ name_mark format mark ∷ []) ++ when format.numbers (decimal number ++ mark ∷ [])
@@ -85,7 +85,8 @@ part_row format end name number offset bytes part =
     row format end name (number + part.line) (offset + part.span.start) colon
     (part_text format (slice_range bytes part.span.start part.span.end))
 
--- the same for the bytes whose first line stands at this position, where the part stands in the first `cut` lines
+-- The row of a part of some bytes, whose first line stands at this position, if the part stands in the first `cut`
+-- lines.
 abbrev pub part_row_within : Format → ℕ → List ℕ → Position → ℕ → List ℕ → Part → List ℕ
 part_row_within format end name first cut bytes part =
     when (nat_lt part.line cut) (part_row format end name first.number first.offset bytes part)

@@ -59,7 +59,7 @@ after_other format t l =
       window = keep_last (context format.before) (t.window ++ l ∷ []);
     }
 
--- the same at another offset
+-- what is remembered of a file's lines, at another offset
 abbrev pub with_offset : ℕ → Trail → Trail
 with_offset at t = record t { offset = at }
 

@@ -79,7 +79,7 @@ impl<A: Allocator> Prefix<A> {
         }
     }
 
-    /// Writes the same in colors, in several texts.
+    /// Writes the prefix in colors, in several texts.
     fn write_colored<W: Sink>(
         &self,
         out: &mut W,
@@ -97,7 +97,7 @@ impl<A: Allocator> Prefix<A> {
         write_tab(out, format, has_text)
     }
 
-    /// Writes the same without colors.
+    /// Writes the prefix without colors.
     fn write_plain<W: Sink>(
         &mut self,
         out: &mut W,

@@ -6,12 +6,12 @@ use Rattle.pg_run.specs.declared.fault.RunFault.TheVariants.{OutOfMemory, Sink, 
 use Rattle.pg_round.specs.declared.fault.RoundFault.{RoundFault}
 use Rattle.pg_round.specs.declared.fault.RoundFault.TheVariants.{OutOfMemory as NoMemoryForRound, Sink as RoundSink}
 
--- those of a round
+-- a round's fault, as a run's
 abbrev pub fault_of_round : RoundFault → RunFault
 fault_of_round NoMemoryForRound = OutOfMemory
 fault_of_round RoundSink = Sink
 
--- those of a cutter: a line and a file that are too long are told alike
+-- a cutter's fault, as a run's: a line and a file that are too long are told alike
 abbrev pub fault_of_cut : CutFault → RunFault
 fault_of_cut NoMemoryToCut = OutOfMemory
 fault_of_cut LineTooLong = TooLong

@@ -81,16 +81,16 @@ module _ {A Q C : Type 0} {asks : Ghosts Q A C} where
     pub got : out.taken ≡ aim.out.taken ++ written
     pub calm : out.failures ≡ aim.out.failures
 
-  -- its plan has no step yet, in each run for this text and setup
+  -- the engine's plan has no step yet, in each run for this text and setup
   abbrev pub IsNewEngine : SearchText → Setup → Engine A Q C asks → Type 0
   IsNewEngine text setup engine = (aim : Aim) → HasItsTrees aim.query → aim.query.text ≡ text → aim.setup ≡ setup
       → HasPlan engine aim [] aim.out
 
-  -- it has this plan, and the step may follow
+  -- the engine has this plan, and the step may follow
   abbrev pub IsReady : Engine A Q C asks → Aim → List Step → Stream → Step → Type 0
   IsReady engine aim steps out step = HasPlan engine aim steps out × MayStep aim steps step
 
-  -- for some run it has some plan
+  -- for some run the engine has some plan
   abbrev pub HasSomePlan : Engine A Q C asks → Stream → Type 0
   HasSomePlan engine out = (aim : Aim) × (steps : List Step) × HasPlan engine aim steps out
 
@@ -111,7 +111,7 @@ module _ {A Q C : Type 0} {asks : Ghosts Q A C} where
       × IsCutterAfter cutter (unfed (terminator aim.query) old.files aim.setup.block aim.setup.line)
       × IsDrained cutter)
 
-  -- each plan that it had it has still
+  -- each plan that the engine had it has still
   abbrev pub PlansStay : (old new : Engine A Q C asks) → Type 0
   PlansStay old new = (aim : Aim) → (steps : List Step) → (out : Stream) → HasPlan old aim steps out
       → HasPlan new aim steps out
@@ -127,7 +127,7 @@ SearchCause Sink aim out = aim.out.failures < out.failures
 SearchCause TooManyFiles aim out = ⊥
 SearchCause TooLong aim out = ⊥
 
--- it broke off, and the writer took a beginning of what the plan gives
+-- a search broke off, and the writer took a beginning of what the plan gives
 pub record BreaksOffInSearch (aim : Aim) (steps : List Step) (out : Stream) (fault : RunFault) : Type 0 where
   pub cause : SearchCause fault aim out
   pub part : TakesPart (output_of aim steps) aim.out.taken out.taken
@@ -143,13 +143,13 @@ module _ {A Q C : Type 0} {asks : Ghosts Q A C} where
       → MatchResult result (λ _. HasPlan new aim (step ∷ steps) after
       × (old.spread ≡ false → AllIsWritten aim (step ∷ steps) after)) (BreaksOffInSearch aim (step ∷ steps) after)
 
-  -- each plan that it had it has at Ok still; at Err the search broke off
+  -- each plan that the engine had it has at Ok still; at Err the search broke off
   abbrev pub KeepsPlan : {T : Type 0} → (old new : Engine A Q C asks) → (before after : Stream) → Result T RunFault
       → Type 0
   KeepsPlan old new before after result = (aim : Aim) → (steps : List Step) → HasPlan old aim steps before
       → MatchResult result (λ _. HasPlan new aim steps after) (BreaksOffInSearch aim steps after)
 
-  -- and all that it gives is written then
+  -- Each plan that the engine had it has at Ok still, and all that it gives is written; at Err the search broke off.
   abbrev pub WritesPlan : {T : Type 0} → (old new : Engine A Q C asks) → (before after : Stream) → Result T RunFault
       → Type 0
   WritesPlan old new before after result = (aim : Aim) → (steps : List Step) → HasPlan old aim steps before

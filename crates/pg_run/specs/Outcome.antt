@@ -109,7 +109,7 @@ pub record AreReadRightly (q : Search) (setup : Setup) (given : List FileOutcome
   pub left : AreLeftRightly q setup.format (entries_given (drop 1 given))
   pub quiet : is_quiet setup.format.mode ≡ true → EndsAtSelected q (entries_given given)
 
--- it stopped, behind files that were read as far as was needed
+-- a run stopped by a fault, behind files that were read as far as was needed
 abbrev pub BreaksOff : Search → Setup → List FileOutcome → (out out' told told' : Stream) → RunFault → Type 0
 BreaksOff q setup given out out' told told' fault =
     HasStopped q setup given out out' told told' fault × AreReadRightly q setup given

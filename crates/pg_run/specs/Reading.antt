@@ -65,16 +65,17 @@ module _ {A Q C : Type 0} {asks : Ghosts Q A C} where
     pub holds : HasPlan engine aim steps out
     pub cuts : HasCut reader aim given steps
 
-  -- for some run it is so
+  -- for some run a file is open, and the engine has the blocks that were taken of it
   abbrev pub IsInSomeFile : FileReader A → Engine A Q C asks → List FileOutcome → Stream → Type 0
   IsInSomeFile reader engine given out = (aim : Aim) × IsInsideFile reader engine aim given out
 
-  -- for some run and whatever was given it is so, and all blocks that are cut were taken
+  -- for some run and whatever was given a file is open, and the engine has all blocks that were cut of it
   abbrev pub IsReadingSomeFile : FileReader A → Engine A Q C asks → Stream → Type 0
   IsReadingSomeFile reader engine out =
       (aim : Aim) × (given : List FileOutcome) × IsDrained reader.cutter × IsInsideFile reader engine aim given out
 
-  -- and the file can't go on, for its end or a failure, with room for its last block
+  -- The engine has all blocks that were cut of the open file, which can't go on, for its end or a failure, and has room
+  -- for its last block.
   pub record IsAtLastBlock (reader : FileReader A) (engine : Engine A Q C asks) (failed : Bool) (out : Stream)
       : Type 0 where
     pub ended : ending_after reader.came ≡ ending_of failed
@@ -110,7 +111,7 @@ module _ {A Q C : Type 0} {asks : Ghosts Q A C} where
   abbrev pub HasToldAll : Engine A Q C asks → Aim → List FileOutcome → (out told : Stream) → Type 0
   HasToldAll engine aim given out told = IsBetweenFiles engine aim given out × AllIsTold aim given told
 
-  -- for some run it is so
+  -- for some run no file is open, and all that was given by now was told
   abbrev pub HasToldSome : Engine A Q C asks → List FileOutcome → (out told : Stream) → Type 0
   HasToldSome engine given out told = (aim : Aim) × HasToldAll engine aim given out told
 
@@ -146,7 +147,7 @@ module _ {A Q C : Type 0} {asks : Ghosts Q A C} where
       (aim : Aim) → IsInsideFile reader engine aim given out
       → MatchResult result (λ _. IsInsideFile reader' engine' aim given' out') (BreaksOffInFile aim given' out')
 
--- it broke off, and both writers took beginnings
+-- a run broke off, and both writers took beginnings
 abbrev pub BreaksOffTold : Aim → List FileOutcome → (out told : Stream) → RunFault → Type 0
 BreaksOffTold aim given out told = HasStopped aim.query aim.setup given aim.out out aim.told told
 
@@ -158,7 +159,7 @@ module _ {A Q C : Type 0} {asks : Ghosts Q A C} where
       (aim : Aim) → HasToldAll engine aim given out told
       → MatchResult result (λ _. HasToldAll engine' aim given' out' told') (BreaksOffTold aim given' out' told')
 
--- it broke off, behind files that were read as far as was needed
+-- a run broke off, behind files that were read as far as was needed
 abbrev pub BreaksOffBehind : Aim → List FileOutcome → (out told : Stream) → RunFault → Type 0
 BreaksOffBehind aim given out told = BreaksOff aim.query aim.setup given aim.out out aim.told told
 

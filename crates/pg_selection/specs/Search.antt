@@ -36,7 +36,7 @@ pub record Search : Type 0 where
 abbrev pub HasItsTrees : Search → Type 0
 HasItsTrees q = AreTreesOf q.text q.trees
 
--- the same text without -v: it selects the lines with a hit
+-- a text without its -v: it selects the lines with a hit
 abbrev pub uninverted : SearchText → SearchText
 uninverted text = record {
   kind = text.kind;

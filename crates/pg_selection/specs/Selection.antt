@@ -14,11 +14,11 @@ HasHit q line = PatternsHaveHit q.trees (bounds_of q.text) line
 abbrev pub Selected : Search → List ℕ → Type 0
 Selected q line = MatchBool q.text.invert (HasHit q line → ⊥) (HasHit q line)
 
--- the same as tests
-
+-- whether some span of the line is matched
 abbrev pub has_hit : Search → List ℕ → Bool
 has_hit q line = patterns_have_hit q.trees (bounds_of q.text) line
 
+-- whether the line is selected
 abbrev pub selects : Search → List ℕ → Bool
 selects q line = if q.text.invert then not (has_hit q line) else has_hit q line
 

@@ -56,7 +56,7 @@ abbrev pub left_ahead : {A : Type 0} → Assembler A → Lookahead → ℕ
 left_ahead s a = 2 * (length s.waiting.items - a.files) + (if a.inside then 1 else 0)
     + (length s.buffer.slots.items - a.blocks)
 
--- there is a past after which it stands and by which the rows could be written so far
+-- there is a past after which the sequencer stands and by which the rows could be written so far
 abbrev pub MayLookFurther : {A : Type 0} → Assembler A → Lookahead → Type 0
 MayLookFurther s a = (past : Past) × IsAfter s past × HasLookedAhead s past a
 

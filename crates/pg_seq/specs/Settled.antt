@@ -45,7 +45,7 @@ IsLonger (Read name bytes Failed) other = other ≡ Read name bytes Failed
 IsLonger (Read name bytes Left) other = (more : List ℕ) × (ending : Ending) × (is_running ending ≡ false)
     × (is_failed ending ≡ false) × (other ≡ Read name (bytes ++ more) ending)
 
--- the same files in the same order, of which those that were left may be longer
+-- two lists have the same files in the same order, of which those that were left may be longer in the second one
 abbrev pub MayBeLonger : List Entry → List Entry → Type 0
 MayBeLonger [] [] = Unit {0}
 MayBeLonger [] (other ∷ others) = ⊥

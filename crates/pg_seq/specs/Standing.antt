@@ -69,15 +69,15 @@ pub record IsAfter {A : Type 0} (s : Assembler A) (past : Past) : Type 0 where
   pub selected : s.buffer.selected ≡ list_any (slot_selects past.query) gone
   pub writes : HasWritten s past
 
--- there is a past after which it stands
+-- there is a past after which the sequencer stands
 abbrev pub HasPast : {A : Type 0} → Assembler A → Type 0
 HasPast s = (past : Past) × IsAfter s past
 
--- there is such a past, and no write has failed
+-- there is a past after which the sequencer stands, and no write has failed
 abbrev pub MayWrite : {A : Type 0} → Assembler A → Type 0
 MayWrite s = (past : Past) × IsAfter s past × (s.failed ≡ false)
 
--- nothing happened to it, and it is for the results of the query with this text
+-- nothing happened to the sequencer, and it is for the results of the query with this text
 abbrev pub IsAtStart : {A : Type 0} → SearchText → Format → Assembler A → Type 0
 IsAtStart text format s = (trees : List Pattern) → AreTreesOf text trees →
     IsAfter s (start (search_of text trees) format)
@@ -86,28 +86,28 @@ IsAtStart text format s = (trees : List Pattern) → AreTreesOf text trees →
 abbrev pub IsReadyFor : {A : Type 0} → Assembler A → Past → Step → Type 0
 IsReadyFor s past step = IsAfter s past × MayFollow (terminator past.query) (plan past) step
 
--- for some past it may
+-- for some past the sequencer stands after it, and the step may follow
 abbrev pub MayPlan : {A : Type 0} → Assembler A → Step → Type 0
 MayPlan s step = (past : Past) × IsReadyFor s past step
 
--- at Ok the step is planned behind each past after which it stood
+-- at Ok the step is planned behind each past after which the sequencer stood
 abbrev pub PlansAtOk : {A T E : Type 0} → (old new : Assembler A) → Step → Result T E → Type 0
 PlansAtOk old new step result = (past : Past) → IsAfter old past → OnOk result (IsAfter new (planned past step))
 
--- the same of each past on which the step may follow
+-- at Ok the step is planned behind each past after which the sequencer stood and on which the step may follow
 abbrev pub PlansAtOkIfReady : {A T E : Type 0} → (old new : Assembler A) → Step → Result T E → Type 0
 PlansAtOkIfReady old new step result = (past : Past) → IsAfter old past →
     MayFollow (terminator past.query) (plan past) step → OnOk result (IsAfter new (planned past step))
 
--- at Err it stands after each past after which it stood
+-- at Err the sequencer stands after each past after which it stood
 abbrev pub StaysAtErr : {A T E : Type 0} → (old new : Assembler A) → Result T E → Type 0
 StaysAtErr old new result = (past : Past) → IsAfter old past → OnErr result (IsAfter new past)
 
--- by some past after which it stands the result would be taken
+-- by some past after which the sequencer stands the result would be taken
 abbrev pub MayKeep : {A : Type 0} → Assembler A → SearchedBlock → Type 0
 MayKeep s found = (past : Past) × IsAfter s past × (answer past found ≡ Taken)
 
--- the result has arrived behind each past after which it stood and by which the result is taken
+-- the result has arrived behind each past after which the sequencer stood and by which the result is taken
 abbrev pub Keeps : {A : Type 0} → (old new : Assembler A) → SearchedBlock → Type 0
 Keeps old new found = (past : Past) → IsAfter old past → answer past found ≡ Taken → IsAfter new (arrived past found)
 
@@ -121,9 +121,9 @@ abbrev pub TellsStatus : {A : Type 0} → Assembler A → Option ℕ → Type 0
 TellsStatus s told = (past : Past) → IsAfter s past →
     MatchOption told (IsComplete past → ⊥) (λ status. IsComplete past × (status ≡ status_of past))
 
--- A drain did so, behind each past after which it stood. Where it tells of a write that failed in it, the sink has
--- counted a failure; where it tells of an earlier one, the sink was asked nothing; and where of none, it has counted
--- none.
+-- A drain wrote what it had to, behind each past after which the sequencer stood. Where it tells of a write that failed
+-- in it, the sink has counted a failure; where it tells of an earlier one, the sink was asked nothing; and where of
+-- none, it has counted none.
 pub record Drains {A : Type 0} (old new : Assembler A) (before after : Stream) (result : Result (Unit {0}) SinkFault)
     : Type 0 where
   pub drained : (past : Past) → IsAfter old past → (text : List ℕ) × (after.taken ≡ before.taken ++ text)

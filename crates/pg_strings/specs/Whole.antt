@@ -28,6 +28,6 @@ pub record AreWhole (lengths first next : List ℕ) (strings : List (List ℕ)) 
 abbrev pub IsWholeOf : {A : Type 0} → WholeStrings A → List (List ℕ) → Type 0
 IsWholeOf whole strings = AreWhole whole.lengths.items whole.chains.first.items whole.chains.next.items strings
 
--- that is so, if there are such tables
+-- the tables, if there are any, are those of these strings
 abbrev pub KnowsWhole : {A : Type 0} → Option (WholeStrings A) → List (List ℕ) → Type 0
 KnowsWhole whole strings = ForSome whole (λ tables. IsWholeOf tables strings)

@@ -46,8 +46,8 @@ abbrev pub FindsBracket : Syntax → List ℕ → ℕ → Result (ByteSet × ℕ
 FindsBracket syntax text at (Ok x) found = (found ≡ Some (bytes x.0, drop x.1 text)) × (at < x.1) × (x.1 ≤ length text)
 FindsBracket syntax text at (Err f) found = (found ≡ None) × PlaceInToken syntax f.kind text at f.at
 
--- the same of a bracket that begins at the first offset and whose reading goes on at the second one, with the fault at
--- a place that any expression can have
+-- The set of the bracket that begins at the first offset and whose reading goes on at the second one, and the offset
+-- after it; or a fault at its place in a bracket.
 abbrev pub FindsSet : List ℕ → (bracket at : ℕ) → Result (ByteSet × ℕ) SyntaxFault → Option (Bytes × List ℕ) → Type 0
 FindsSet text bracket at (Ok x) found =
     (found ≡ Some (bytes x.0, drop x.1 text)) × (at < x.1) × (x.1 ≤ length text)

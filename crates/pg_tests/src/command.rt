@@ -211,7 +211,7 @@ fn block_asked(alloc: Global, words: &Words) -> Option<u32> {
     }
 }
 
-/// The same for the words of a text.
+/// The size of blocks that the words of a text give in a search for one text in standard input.
 fn block_of(rt: &impl Abort, alloc: Global, text: &str) -> Option<u32> {
     let words = words_of(rt, alloc, text);
     let cut = Words::new(alloc, words.as_slice()).expect(rt, "memory");

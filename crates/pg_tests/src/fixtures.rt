@@ -68,7 +68,7 @@ pub(crate) fn query_of<A: Allocator + Copy>(
     compile(alloc, text_of(alloc, Kind::Fixed, pattern)?)
 }
 
-/// So many requests of a new scratch may be refused, and it only searches more slowly: those for its table.
+/// So many requests of a new scratch may be refused, and it only searches more slowly: those for its DFA cache.
 pub(crate) const SPARED: u64 = 5;
 
 /// What a search finds in a block of at most 100 bytes.

@@ -600,7 +600,7 @@ fn assert_refused<R: Abort + Threads + Wait + Clock + Sync>(
     assert_refusals(rt, alloc, Expected { case, ..whole });
 }
 
-/// The same of a row of `REFUSED`.
+/// Each request for memory of a run is refused in turn, as a row of `REFUSED` says.
 fn assert_refused_row<R: Abort + Threads + Wait + Clock + Sync>(rt: &R, alloc: Global, row: &str) {
     let (letters, rest) = cut(rt, row, " ");
     let (patterns, rest) = cut(rt, rest, " ");

@@ -388,7 +388,8 @@ fn write_lines<A: Allocator + Copy>(
     Ok((whole, again))
 }
 
-/// The same into a new sink, and nothing where there is no memory for one.
+/// Whether a sequencer writes all into a new sink, and whether an announcement was refused and made again; nothing
+/// where there is no memory for a sink.
 fn write_anew(rt: &impl Abort, heap: &Refusing) -> Result<(bool, bool), AllocError> {
     let mut sink = MemSink::new(heap, 100)?;
     write_lines(rt, heap, &mut sink)

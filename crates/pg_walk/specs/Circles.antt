@@ -5,7 +5,7 @@ use Rattle.pg_walk.specs.Answers.{Text, Answers}
 use Rattle.pg_walk.specs.Paths.{above}
 use Rattle.pg_walk.specs.declared.tree.Identity.{Identity}
 
--- both can be told, and are one file
+-- both identities can be told, and are of one file
 abbrev pub are_one : Option Identity → Option Identity → Bool
 are_one None other = false
 are_one (Some x) None = false

@@ -25,7 +25,7 @@ spot_of (V.Entry path depth) = Entry (string_bytes path) depth
 abbrev pub spots_in : {A : Type 0} → List (WaitingPath A) → List Spot
 spots_in waiting = reverse (map spot_of waiting)
 
--- what such a path gives with all that is below it, by the tree's answers
+-- what a waiting path gives with all that is below it, by the tree's answers
 abbrev pub spot_gives : Sights → Bool → Spot → Names → Found → Type 0
 spot_gives a recursive (Operand path) = OperandGives a recursive path
 spot_gives a recursive (Entry path depth) = EntryGives a depth path
@@ -37,7 +37,7 @@ AreLeft a recursive (spot ∷ spots) items =
     (here : List Found) × (more : List Found) × ItemsOf names_cmp (spot_gives a recursive spot) here
     × AreLeft a recursive spots more × (items ≡ here ++ more)
 
--- what such a path may give, whatever the tree answers
+-- what a waiting path may give, whatever the tree answers
 abbrev pub MayGive : Scope → Spot → List Found → Type 0
 MayGive scope (Operand path) items = BelongTo scope path items
 MayGive scope (Entry path depth) items = All (IsWithin path) items
@@ -61,7 +61,8 @@ Unfolds a recursive gives item old new =
     (here : List Found) × (more : List Found) × ItemsOf names_cmp gives here
     × AreLeft a recursive old more × (shown item ++ rest ≡ here ++ more)
 
--- The same of what a place may give.
+-- A place may have given an item or none at once, with the rest of what it gives left: whatever may be left now, behind
+-- that item, is what the place may give and then what might be left without it.
 abbrev pub UnfoldsWithin : Scope → (List Found → Type 0) → Option Found → (old new : List Spot) → Type 0
 UnfoldsWithin scope may item old new =
     (rest : List Found) → MayBeLeft scope new rest →

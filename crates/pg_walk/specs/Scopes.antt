@@ -38,7 +38,7 @@ are_read ReadOperands = Bool.false
 are_read Read = Bool.true
 are_read Skip = Bool.false
 
--- they are left out, operands too (`-D skip`)
+-- devices are left out, operands too (`-D skip`)
 abbrev pub are_skipped : Devices → Bool
 are_skipped ReadOperands = Bool.false
 are_skipped Read = Bool.false

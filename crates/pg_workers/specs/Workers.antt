@@ -25,7 +25,7 @@ module _ {A C : Type 0} where
       SearchView (Arc BlockData A) C SearchedBlock → List (Arc BlockData A) → BoardView → SegId A → Task A C
   task search blocks board tray = record { search = search; blocks = blocks; board = board; tray = tray }
 
-  -- that of a round, by what is seen of its query
+  -- the task of a round, by what is seen of its query
   abbrev pub task_of : {Q : Type 0} → (Q → SearchView (Arc BlockData A) C SearchedBlock) → Round Q A → Task A C
   task_of seen round = task (seen round.query.now) round.blocks.now round.board.now round.tray.now
 
@@ -39,7 +39,7 @@ module _ {A C : Type 0} where
       (ns : List ℕ) × (rs : List SearchedBlock) × (drawn' ≡ drawn ++ ns) × (put' ≡ put ++ rs)
       × AreResultsOf t.search.finds t.blocks ns rs
 
-  -- it was so for all the numbers that were drawn but the last, which is this one
+  -- what was put grew by one result for each number that was drawn but the last, in order; the last one is this
   abbrev pub GrowBut : Task A C → ℕ → List ℕ → List ℕ → List SearchedBlock → List SearchedBlock → Type 0
   GrowBut t last drawn drawn' put put' =
       (before : List ℕ) × (drawn' ≡ before ++ last ∷ []) × GrowAlike t drawn before put put'
