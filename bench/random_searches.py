@@ -6,27 +6,27 @@ Options, fixed strings and expressions are put together by chance, of words that
 search is made twice in turn by GNU grep and by pargrep, which uses one thread (`--round 1`), and the least processor
 time of each counts. What pargrep writes has to be what GNU grep writes, byte for byte. A line is printed for each
 search, with both times in milliseconds and their ratio, those with the greatest ratios last, and then how the ratios
-lie. Searches that take GNU grep less than 4 milliseconds are left out of that, and those that take it more than 20
-seconds are ended. The status is 1 where an output differs. Nothing of this is in the gate.
+lie. Searches that take GNU grep less than 4 milliseconds are left out of that. The status is 1 where an output differs.
+Nothing of this is in the gate.
 """
 
 import argparse
-import os
 import random
-import subprocess
+import shutil
 import sys
 import tempfile
 from dataclasses import dataclass
 from pathlib import Path
 
 import texts
+from bench import Bench, Case
 
-ENVIRONMENT = {"LC_ALL": "C", "PATH": os.environ.get("PATH", os.defpath)}
-SLOW = 20
+ROUNDS = 2
 LEAST = 4
 SETS = ["[0-9]", "[a-z]", "[A-Z]", "[aeiou]", "[^aeiou]", "[a-f0-9]", "[^ ]", "[^,]", '[^"]', ".", "[[:alpha:]]"]
 SETS += ["[[:digit:]]", "[[:space:]]", "[[:punct:]]"]
-COUNTS = ["*", "+", "?", "{2}", "{3,}", "{1,4}", "{0,20}", "{8}"]
+FEW_COUNTS = ["*", "+", "?", "{2}"]
+COUNTS = [*FEW_COUNTS, "{3,}", "{1,4}", "{0,20}", "{8}"]
 SPECIAL = set(".[]{}()*+?|^$\\")
 
 
@@ -73,8 +73,9 @@ class Searches:
         return "(" + "".join(self.piece(depth + 1) for _ in range(self.chance.randint(1, 2))) + ")"
 
     def piece(self, depth):
+        """An atom, repeated or not. Within others counts are small, for pargrep refuses more than 65,536 states."""
         atom = self.atom(depth)
-        return atom if self.chance.random() < 0.5 else atom + self.chance.choice(COUNTS)
+        return atom if self.chance.random() < 0.5 else atom + self.chance.choice(FEW_COUNTS if depth else COUNTS)
 
     def expression(self):
         found = "".join(self.piece(0) for _ in range(self.chance.randint(1, 4)))
@@ -105,7 +106,7 @@ class Searches:
 
 
 def make_texts(folder, megabytes):
-    """Writes the texts, and answers their paths and the words that they are made of."""
+    """Writes the texts, and answers their names and the words that they are made of."""
     words = texts.dictionary()
     made = {
         "common": texts.common(megabytes),
@@ -120,31 +121,18 @@ def make_texts(folder, megabytes):
     }
     for name, text in made.items():
         (folder / name).write_bytes(text)
-    return [folder / name for name in made], [*texts.COMMON, *words[:3_000]]
+    return list(made), [*texts.COMMON, *words[:3_000]]
 
 
-def ran(command, out):
-    """Runs a command whose output goes to a file; answers its status and the processor time that it took, in ms."""
-    with out.open("wb") as file:
-        process = subprocess.Popen(command, stdout=file, stderr=subprocess.DEVNULL, env=ENVIRONMENT)
-        _, status, used = os.wait4(process.pid, 0)
-        process.returncode = os.waitstatus_to_exitcode(status)
-    return process.returncode, 1000 * (used.ru_utime + used.ru_stime)
-
-
-def timed(program, words, path, folder):
-    """Times a search; None where GNU grep was ended, and an exception where the outputs differ."""
-    commands = {"grep": ["timeout", str(SLOW), "grep", *words], "pargrep": [program, "--round", "1", *words]}
-    least = {}
-    for _ in range(2):
-        outcomes = {name: ran([*command, path], folder / f"{name}.out") for name, command in commands.items()}
-        if outcomes["grep"][0] == 124:
-            return None
-        outputs = {(folder / f"{name}.out").read_bytes() for name in commands}
-        if len(outputs) > 1 or outcomes["grep"][0] != outcomes["pargrep"][0]:
-            raise ValueError(f"the outputs differ: {' '.join(words)} {path.name}")
-        least = {name: min(time, least.get(name, time)) for name, (_, time) in outcomes.items()}
-    return Timed(f"{' '.join(map(repr, words))} {path.name}", least["grep"], least["pargrep"])
+def timed(bench, case):
+    """Times a search by GNU grep and by pargrep in one thread; None where the outputs differ."""
+    least, outputs = {}, set()
+    for _ in range(ROUNDS):
+        for name in ("grep", "one"):
+            _, busy = bench.run(bench.programs[name](case), case)
+            least[name] = min(1000 * busy, least.get(name, 1000 * busy))
+            outputs.add(bench.output(case))
+    return Timed(case.label(), least["grep"], least["one"]) if len(outputs) == 1 else None
 
 
 def main():
@@ -154,17 +142,22 @@ def main():
     parser.add_argument("--seed", type=int, default=1)
     parser.add_argument("--megabytes", type=int, default=6)
     asked = parser.parse_args()
+    program = shutil.which(asked.program)
+    if program is None:
+        sys.exit(f"random_searches: there is no program {asked.program}; `make` builds crates/pargrep/out/pargrep")
+    found, differ = [], 0
     with tempfile.TemporaryDirectory(prefix="random-searches-") as room:
-        folder = Path(room)
-        paths, words = make_texts(folder, asked.megabytes)
-        searches, found, differ = Searches(asked.seed, words), [], 0
+        names, words = make_texts(Path(room), asked.megabytes)
+        bench = Bench(str(Path(program).resolve()), Path(room), ROUNDS)
+        searches = Searches(asked.seed, words)
         for _ in range(asked.searches):
-            try:
-                one = timed(asked.program, searches.search(), searches.chance.choice(paths), folder)
-                found += [one] if one and one.grep >= LEAST else []
-            except ValueError as error:
-                print(error, flush=True)
+            case = Case(searches.search(), searches.chance.choice(names), None)
+            one = timed(bench, case)
+            if one is None:
+                print(f"the outputs differ: {case.options} {case.text}", flush=True)
                 differ += 1
+            elif one.grep >= LEAST:
+                found.append(one)
     found.sort(key=Timed.ratio)
     for one in found:
         print(one.line())
