@@ -204,7 +204,7 @@ impl<A: Allocator> Cache<A> {
     pub fn find(&self, set: &StateSet<A>, flag: bool) -> Option<usize>
         requires shape { IsShape (length set.now.marks.items) (dfa self.now) }
         requires good { IsGood (members set.now) }
-        ensures known { IfSome result (λ row. (1 ≤ row) × (row ≤ self.now.count)) }
+        ensures known { IfSome result (λ row. (2 ≤ row) × (row ≤ self.now.count)) }
         ensures same { IfSome result (λ row. Same (Has (members set.now)) (In (dfa self.now) row)) }
         ensures flag { IfSome result (λ row. flag_at (dfa self.now) row ≡ flag) }
     {
