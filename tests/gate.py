@@ -1,8 +1,9 @@
 #!/usr/bin/env python3
-"""The gate: has the toolchain prove all from nothing and run the tests, and each wrong body tried; then compares the
-options, the wrong bodies, the files of rows and the crates with the documents that list them, asks bash's completion,
-looks for lemmas and definitions without use, runs the rows, the runs by threads, over trees, without memory and over an
-input that stays open, and looks up the wrong bodies that it doesn't try. It closes with 'N passed, M failed' over all.
+"""The gate: has the toolchain prove all from nothing and run the tests, and each wrong body tried; then builds with a
+stand-in for the toolchain, compares the options, the wrong bodies, the files of rows and the crates with the documents
+that list them, asks bash's completion, looks for lemmas and definitions without use, runs the rows, the runs by
+threads, over trees, without memory and over an input that stays open, and looks up the wrong bodies that it doesn't
+try. It closes with 'N passed, M failed' over all.
 
 Usage: tests/gate.py [RT]
        tests/gate.py --program PATH
@@ -38,6 +39,7 @@ PROGRAM = "crates/pargrep/out/pargrep"
 FIGURES = re.compile(r"([0-9]+) passed, ([0-9]+) failed")
 # What runs behind the proofs, each a script of this folder: over files of the repository, and on the program.
 OVER_FILES = (
+    ("the build with a stand-in for the toolchain", "building.py"),
     ("the options", "options.py"),
     ("the completion in bash", "completions.py"),
     ("the lists of wrong bodies and rows", "wrong_bodies.py"),

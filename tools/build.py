@@ -7,8 +7,9 @@ The toolchain proves them from nothing, those that don't need one another side b
 done, so that an interrupted build leaves nothing behind. A line is printed for each crate as it is proved. Where the
 toolchain keeps on the machine what it has proved, each library has a run of its own, so that those begin first for
 which others wait longest, and a last run over all of them proves and builds the program; a later build proves only what
-changed. Where nothing changed since the program was built, nothing is done. RT_JOBS says how many proofs run at once,
-each on one processor; without it there are as many as there are processors and memory for.
+changed. Where it keeps nothing, or takes no names of crates, one run proves all. Where nothing changed since the
+program was built, nothing is done. RT_JOBS says how many proofs run at once, each on one processor; without it there
+are as many as there are processors and memory for.
 """
 
 import hashlib
@@ -35,6 +36,8 @@ STAMP = BUILT.with_suffix(".sum")
 DONE = re.compile(r"rt: (\w+) (proved$|is kept)")
 # What a run over some crates says at its end where a later one begins with what it has proved.
 KEEPS = re.compile(r"(?m)^rt: .* passed, and that is kept")
+# What is said, before anything is proved, where a run takes no names of crates, and so is always over all.
+TAKES_NO_NAMES = "usage: "
 
 
 def sum_of(rt, folder):
@@ -94,7 +97,7 @@ class Proofs:
                 self.tell(DONE.match(line))
         with self.lock:
             self.running.remove(run)
-        if run.returncode:
+        if run.returncode and not (names and said and said[0].startswith(TAKES_NO_NAMES)):
             raise NotProved("".join(said))
         return "".join(said)
 
@@ -111,7 +114,7 @@ class Proofs:
 
 def prove_libraries(pool, proofs, crates, jobs):
     """Has each library proved as soon as all below it are, so many at once, the most urgent ones first. Ends early
-    where the toolchain doesn't keep what it has proved."""
+    where the toolchain doesn't keep what it has proved, or can't be asked for some crates alone."""
     left, proved, running = by_urgency(proofs.names[:-1], crates), set(), {}
     while left or running:
         ready = [it for it in left if proved.issuperset(crates[it].below)]

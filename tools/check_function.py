@@ -1,16 +1,22 @@
 #!/usr/bin/env python3
-"""Checks some functions of a crate by themselves: `tools/check_function.py [--margin] CRATE FUNCTION..`
+"""Checks some functions of a crate by themselves:
+    tools/check_function.py [--margin] [--over FOLDER] CRATE FUNCTION..
 
 A FUNCTION is named as a check shows it below its crate, `Cutter::feed` or `cutter::cut_open`. All other functions of
 the crate are stubs, of which only contracts are seen, so it takes half a minute where `rt check --only`, which proves
-what they call too, may take as long as the whole crate. It gives no verdict on the crate: `rt check` does. The crates
-below are proved first where the toolchain hasn't kept them. What is printed is what the check says, without the stubs'
-holes; the status is 0 only where each function is proved but for these.
+what they call too, may take as long as the whole crate. It gives no verdict on the crate: `rt check` does. What is
+printed is what the check says, without the stubs' holes; the status is 0 only where each function is proved but for
+these.
+
+The crates below are those that `rt ci` has built in FOLDER, a copy of the repository in which it has passed. Without
+--over they are proved first, which takes minutes where the toolchain doesn't keep what it has proved.
 
 With --margin the prover's search may take half as much for a goal. A goal that stays open so is a slow one, and may
 stay open without it too when something else changes: it is best given an answer.
 """
 
+import argparse
+import contextlib
 import re
 import sys
 from pathlib import Path
@@ -38,21 +44,27 @@ def named_functions(crate, names):
     return set(found)
 
 
+def read_arguments():
+    parser = argparse.ArgumentParser(description=__doc__, formatter_class=argparse.RawDescriptionHelpFormatter)
+    parser.add_argument("--margin", action="store_true", help="halve what a search may take")
+    parser.add_argument("--over", type=Path, metavar="FOLDER", help="where `rt ci` has passed")
+    parser.add_argument("crate", metavar="CRATE")
+    parser.add_argument("functions", nargs="+", metavar="FUNCTION")
+    return parser.parse_args()
+
+
 def main():
-    flags = [it for it in sys.argv[1:] if it == "--margin"]
-    name, *functions = [it for it in sys.argv[1:] if it not in flags] or [""]
-    if not functions:
-        sys.exit(__doc__)
+    given = read_arguments()
     crates = read_crates()
-    if name not in crates:
-        sys.exit(f"check_function: there is no crate {name}")
-    crate = crates[name]
-    functions = named_functions(crate, functions)
+    if given.crate not in crates:
+        sys.exit(f"check_function: there is no crate {given.crate}")
+    crate, flags = crates[given.crate], ["--margin"] if given.margin else []
+    functions = named_functions(crate, given.functions)
     # Checked modules alone, and no text, so that nothing with a hole stays in the checkout.
     kept = crate.folder() / "out" / "".join(["among-stubs", *flags])
     kept.mkdir(parents=True, exist_ok=True)
-    with built(crate.below, jobs_at_once()) as over:
-        said = Prover(Path(over)).check(crate, kept, {}, functions, flags)
+    with contextlib.nullcontext(given.over) if given.over else built(crate.below, jobs_at_once()) as over:
+        said = Prover(over.absolute()).check(crate, kept, {}, functions, flags)
     # A message goes on in the indented lines below it.
     for message in filter(None, re.split(r"\n(?! )", said.output)):
         if not NOISE.match(message):
