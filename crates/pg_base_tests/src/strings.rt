@@ -3,7 +3,7 @@ ghost use Rattle.std.specs.Prelude.{◌≤◌, length, IfOk, OnOk};
 ghost use Rattle.std.specs.List.{All};
 
 use crate::rows::{Question, assert_rows, bytes_of};
-use pg_strings::{Budget, Outcome, StringSet};
+use pg_strings::{Budget, Outcome, Rate, StringSet};
 use refusing::Refusing;
 use std::alloc::{AllocError, Allocator, Global};
 
@@ -105,11 +105,15 @@ fn set_of<A: Allocator + Copy>(alloc: A, text: &str) -> Result<StringSet<A>, All
     StringSet::new(alloc, strings)
 }
 
+fn budget(left: usize, rate: Rate) -> Budget {
+    Budget { left, rate }
+}
+
 /// The first place at or behind `from` at which a string stands.
 fn first_place(set: &StringSet, text: &[u8], from: usize) -> Option<usize>
     requires { from ≤ length text.now }
 {
-    match set.find(text, from, &mut Budget { left: 1_000 }) {
+    match set.find(text, from, &mut budget(1_000, Rate::High)) {
         Outcome::Found(place) => Some(place),
         _ => None,
     }
@@ -147,7 +151,7 @@ pub(crate) fn show_places(alloc: Global, kind: &str, asked: &str, out: &mut Stri
 /// Whether a search with a budget of nothing gives up where the first string is to be compared.
 fn gives_up(alloc: Global) -> bool {
     match set_of(alloc, "bab;bbb") {
-        Ok(set) => set.find(b"bbbbab", 0, &mut Budget { left: 0 }) == Outcome::GaveUp(0),
+        Ok(set) => set.find(b"bbbbab", 0, &mut budget(0, Rate::High)) == Outcome::GaveUp(0),
         Err(AllocError) => false,
     }
 }
@@ -156,8 +160,21 @@ fn gives_up(alloc: Global) -> bool {
 /// nothing.
 fn tells_apart(alloc: Global) -> bool {
     match set_of(alloc, "q;baaa;bccc;bddd") {
-        Ok(set) => set.find(b"bzbzbzbzbzbzbzbzbzbz", 0, &mut Budget { left: 0 })
+        Ok(set) => set.find(b"bzbzbzbzbzbzbzbzbzbz", 0, &mut budget(0, Rate::High))
             == Outcome::NotFound,
+        Err(AllocError) => false,
+    }
+}
+
+/// Whether a search that compares two strings at every fourth place in vain gives up where its budget is used up, at a
+/// low rate, and not at a high one.
+fn gives_up_at_a_low_rate(alloc: Global) -> bool {
+    let text = b"baabbaabbaabbaab";
+    match set_of(alloc, "bzz;baaaac;baaaad") {
+        Ok(set) => {
+            set.find(text, 0, &mut budget(4, Rate::Low)) == Outcome::GaveUp(8)
+                && set.find(text, 0, &mut budget(4, Rate::High)) == Outcome::NotFound
+        }
         Err(AllocError) => false,
     }
 }
@@ -175,4 +192,5 @@ fn strings_are_found(rt: HostRuntime) {
     assert_rows(&rt, rt.alloc(), Question::Strings, ROWS);
     assert!(rt; gives_up(rt.alloc()));
     assert!(rt; tells_apart(rt.alloc()));
+    assert!(rt; gives_up_at_a_low_rate(rt.alloc()));
 }

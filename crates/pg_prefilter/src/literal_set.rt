@@ -6,8 +6,19 @@ ghost use Rattle.pg_strings.specs.Outcomes.{strings_of};
 
 use pg_literal::{FEW_TEXTS, Literal};
 use pg_pattern::Bounds;
-use pg_strings::StringSet;
+use pg_strings::{Budget, Rate, StringSet};
 use std::alloc::{AllocError, Allocator, Global};
+
+/// What a search of a block for one of many literals may spend on comparing them, beyond what the bytes that are passed
+/// add.
+const BLOCK_BUDGET: usize = 65_536;
+
+/// The same where their automaton is small: where a literal may begin at every place it is given up soon.
+const SMALL_BUDGET: usize = 1_024;
+
+/// Fixed strings of so many bytes together have an automaton whose sets of states all fit into its cache: there is one
+/// for each beginning of a string, and with -w and -o there may be two.
+const FEW_BYTES: usize = 120;
 
 /// Many literals, none of them empty, prepared to be looked for together.
 #[derive(Drop)]
@@ -17,6 +28,8 @@ pub struct LiteralSet<A: Allocator = Global> {
     pub is_enough: bool,
     /// They are all patterns of the query, which are fixed strings.
     pub is_fixed: bool,
+    /// The automaton of the query's patterns is small, and so takes little more than a nanosecond for a byte.
+    has_small_automaton: bool,
     ghost some: { 0 < length (strings_of strings) },
 }
 
@@ -44,6 +57,15 @@ fn has_empty<A: Allocator>(literals: &[Literal<A>]) -> bool
 /// Whether each literal has at most two bytes.
 fn are_all_short<A: Allocator>(literals: &[Literal<A>]) -> bool {
     literals.iter().all(|literal| literal.text.len() <= 2)
+}
+
+/// Whether literals have few bytes together.
+fn have_few_bytes<A: Allocator>(literals: &[Literal<A>]) -> bool {
+    let mut bytes = 0usize;
+    for literal in literals {
+        bytes = bytes.saturating_add(literal.text.len());
+    }
+    bytes <= FEW_BYTES
 }
 
 /// Whether each literal is enough.
@@ -75,11 +97,30 @@ impl<A: Allocator + Copy> LiteralSet<A> {
         }
         let strings = StringSet::new(alloc, copies_of(alloc, literals)?)?;
         let is_enough = are_all_enough(literals);
+        let has_small_automaton = is_fixed && have_few_bytes(literals);
         Ok(Some(LiteralSet {
             strings,
             is_enough,
             is_fixed,
+            has_small_automaton,
         }))
+    }
+}
+
+impl<A: Allocator> LiteralSet<A> {
+    /// What a search of a block for one of the literals may spend.
+    pub(crate) fn block_budget(&self) -> Budget {
+        if self.has_small_automaton {
+            Budget {
+                left: SMALL_BUDGET,
+                rate: Rate::Low,
+            }
+        } else {
+            Budget {
+                left: BLOCK_BUDGET,
+                rate: Rate::High,
+            }
+        }
     }
 }
 

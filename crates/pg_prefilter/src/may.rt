@@ -10,12 +10,11 @@ ghost use Rattle.pg_selection.specs.Runs.{AllLines};
 ghost use Rattle.pg_prefilter.specs.Prefilters.{IsPrefilterOf};
 
 use crate::literal_set::LiteralSet;
-use crate::needle_set::BLOCK_BUDGET;
 use crate::prefilter::Prefilter;
 use memchr::memmem::Finder;
 use pg_literal::Literal;
 use pg_selection::QueryText;
-use pg_strings::{Budget, Outcome};
+use pg_strings::Outcome;
 use std::alloc::Allocator;
 
 /// Whether some literal stands among bytes.
@@ -36,7 +35,7 @@ fn may_stand<A: Allocator>(set: &LiteralSet<A>, searched: &[u8]) -> bool
     ensures { result ≡ false
         → Nowhere (SomeStands (strings_of set.now.strings) searched.now) 0 (length searched.now) }
 {
-    let mut budget = Budget { left: BLOCK_BUDGET };
+    let mut budget = set.block_budget();
     match set.strings.find(searched, 0, &mut budget) {
         Outcome::NotFound => false,
         Outcome::Found(_) | Outcome::GaveUp(_) => true,

@@ -10,10 +10,6 @@ use pg_selection::QueryText;
 use pg_strings::{Budget, Outcome};
 use std::alloc::Allocator;
 
-/// What a search of a block for one of many literals may spend on comparing them, beyond what the bytes that are passed
-/// add.
-pub(crate) const BLOCK_BUDGET: usize = 65_536;
-
 /// Many literals, and the bytes of a block in which they are looked for.
 pub struct NeedleSet<'n, A: Allocator> {
     literals: &'n LiteralSet<A>,
@@ -40,7 +36,7 @@ impl<'n, A: Allocator> NeedleSet<'n, A> {
         NeedleSet {
             literals,
             searched,
-            budget: Budget { left: BLOCK_BUDGET },
+            budget: literals.block_budget(),
         }
     }
 

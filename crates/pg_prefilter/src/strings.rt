@@ -15,7 +15,7 @@ use pg_blocks::Span;
 use pg_literal::{LineSuffix, Literal};
 use pg_pattern::Bounds;
 use pg_selection::QueryText;
-use pg_strings::{Budget, Outcome, StringSet};
+use pg_strings::{Budget, Outcome, Rate, StringSet};
 use std::alloc::Allocator;
 
 /// What the search of one line may spend on comparing strings, beyond what the bytes that are passed add. It is little,
@@ -117,7 +117,10 @@ fn next_standing<A: Allocator>(
     requires { from ≤ length line.now }
     ensures { FindsString (strings_of set.now) bounds line.now from result }
 {
-    let mut budget = Budget { left: LINE_BUDGET };
+    let mut budget = Budget {
+        left: LINE_BUDGET,
+        rate: Rate::High,
+    };
     let mut at = from;
     while at <= line.len() {
         let place = match set.find(line, at, &mut budget) {

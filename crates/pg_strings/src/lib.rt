@@ -19,6 +19,6 @@ mod set;
 mod short;
 mod whole;
 
-pub use budget::Budget;
+pub use budget::{Budget, Rate};
 pub use outcome::Outcome;
 pub use set::StringSet;

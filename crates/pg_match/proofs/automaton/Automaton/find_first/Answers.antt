@@ -1,4 +1,4 @@
-use Rattle.std.proofs.Common.{◌/◌, ◌-◌, ◌+◌, ◌<◌, ◌≤◌, ◌∙◌, arith, length, subst}
+use Rattle.std.proofs.Common.{◌/◌, ◌-◌, ◌+◌, ◌∙◌, arith, length, subst}
 use Rattle.pg_match.specs.Anchored.{IsLastEnd}
 use Rattle.pg_match.specs.Dfas.{In}
 use Rattle.pg_match.specs.Steps.{Has}

@@ -1,4 +1,4 @@
-use Rattle.std.proofs.Common.{◌-◌, ◌+◌, ◌*◌, ◌<◌, ◌≤◌, ◌^◌, Some, arith, length, subst}
+use Rattle.std.proofs.Common.{◌-◌, ◌+◌, ◌*◌, ◌<◌, ◌≤◌, Some, arith, length, subst}
 use Rattle.std.specs.Option.{IfSome}
 use Rattle.pg_match.specs.Anchored.{IsAlone}
 use Rattle.pg_match.specs.Steps.{Has}

@@ -1,4 +1,4 @@
-use Rattle.std.proofs.Common.{◌<◌, ◌∙◌, length, arith, sym, true≢false}
+use Rattle.std.proofs.Common.{◌∙◌, arith, sym, true≢false}
 use Rattle.pg_match.specs.Views.{nfa, dfa}
 use Rattle.pg_match.proofs.AnchoredLemmas.{start_row_few, follows_first, follows_on, follows_end, in_flags}
 use Rattle.pg_match.proofs.automaton.Automaton.follow_start.Goals as goal

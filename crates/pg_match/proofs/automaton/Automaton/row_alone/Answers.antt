@@ -1,4 +1,4 @@
-use Rattle.std.proofs.Common.{◌≡◌, ◌∙◌, ap, subst}
+use Rattle.std.proofs.Common.{◌∙◌, ap, subst}
 use Rattle.std.specs.Option.{IfSome}
 use Rattle.pg_match.specs.Dfas.{In, Same}
 use Rattle.pg_match.specs.Steps.{Has}

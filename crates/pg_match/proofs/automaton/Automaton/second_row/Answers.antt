@@ -1,4 +1,4 @@
-use Rattle.std.proofs.Common.{◌≡◌, ◌+◌, ◌*◌, ◌<◌, ◌≤◌, ℕ, None, ap, ◌∙◌, get_or, length, arith, refl}
+use Rattle.std.proofs.Common.{◌≡◌, ◌+◌, ◌*◌, ◌<◌, None, ap, ◌∙◌, get_or, arith, refl}
 use Rattle.pg_match.specs.Views.{nfa, dfa}
 use Rattle.pg_match.proofs.AnchoredLemmas.{behind_byte, follows_first}
 use Rattle.pg_match.proofs.automaton.Automaton.second_row.Goals as goal

@@ -1,4 +1,4 @@
-use Rattle.std.proofs.Common.{◌<◌, ◌≤◌, ◌+◌, arith, length}
+use Rattle.std.proofs.Common.{◌<◌, ◌+◌, arith, length}
 use Rattle.pg_match.specs.Views.{nfa}
 use Rattle.pg_match.proofs.AnchoredLemmas.{nothing_behind}
 use Rattle.pg_match.proofs.automaton.Automaton.try_starts.Goals as goal

@@ -1,4 +1,4 @@
-use Rattle.std.proofs.Common.{◌≤◌, ◌+◌, arith, get_or}
+use Rattle.std.proofs.Common.{arith, get_or}
 use Rattle.std.proofs.lemmas.List.{get_or_read}
 use Rattle.pg_match.specs.Views.{nfa, dfa}
 use Rattle.pg_match.proofs.AnchoredLemmas.{in_steps, row_behind}
