@@ -13,11 +13,12 @@ use std::alloc::{AllocError, Allocator, Global};
 /// add.
 const BLOCK_BUDGET: usize = 65_536;
 
-/// The same where their automaton is small: where a literal may begin at every place it is given up soon.
+/// What such a search may spend where the literals' automaton is small: soon, where one may begin at nearly each place,
+/// the rest of the block is the automaton's.
 const SMALL_BUDGET: usize = 1_024;
 
-/// Fixed strings of so many bytes together have an automaton whose sets of states all fit into its cache: there is one
-/// for each beginning of a string, and with -w and -o there may be two.
+/// Fixed strings of at most so many bytes together have an automaton whose sets of states all fit into its cache: there
+/// is one for each beginning of a string, and with -w and -o there may be two.
 const FEW_BYTES: usize = 120;
 
 /// Many literals, none of them empty, prepared to be looked for together.

@@ -5,15 +5,15 @@ ghost use Rattle.std.specs.Prelude.{◌≡◌, ◌+◌, ◌-◌, ◌*◌, ◌≤
 const UNITS_PER_BYTE: usize = 8;
 
 /// How many bytes that are passed add one to a budget, at a low rate.
-const BYTES_PER_UNIT: usize = 32;
+const BYTES_PER_UNIT: usize = 4;
 
 /// How much the bytes that a search passes add to its budget.
 #[derive(Clone, Copy, Debug, PartialEq, Eq)]
 pub enum Rate {
     /// Each byte adds 8: what searches in the strings' place, where they are given up, is slow.
     High,
-    /// Each 32 bytes that are passed at once add 1: what searches in the strings' place is about as fast as strings
-    /// are that may begin at every 32nd place.
+    /// Each 4 bytes that are passed at once add 1: what searches in the strings' place is about as fast as they are
+    /// where some string may begin at each eighth place.
     Low,
 }
 

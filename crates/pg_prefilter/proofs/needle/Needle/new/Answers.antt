@@ -1,4 +1,4 @@
-use Rattle.std.proofs.Common.{arith, false, true≢false, sym}
+use Rattle.std.proofs.Common.{arith, true≢false, sym}
 use Rattle.pg_prefilter.proofs.needle.Needle.new.Goals as goal
 
 pub returns-clause-ahead : goal.returns-clause-ahead
