@@ -1,3 +1,4 @@
+pub mod Examples
 pub mod SetLemmas
 pub mod WordLemmas
 pub mod CaseLemmas
