@@ -571,21 +571,6 @@ walking_read m table l from state p u at v e is_m is lt more read big w =
     walking_next m table l from state p u at v b e is_m is lt (slice_get-get_or l p 0 w.within) more
     (get_or_read table.steps _ v inside read 0) big w
 
--- four steps of it
-pub walking_four : (m : Nfa) (table : Dfa) (l : List ℕ) (from state p at a b c d : ℕ) → IsRunnable m
-    → IsDfaOf m table → ((i : ℕ) → get_or l i 0 < 256) → p + 4 < length l
-    → a ≡ get_or table.steps (at + get_or l p 0) a → 256 ≤ a
-    → b ≡ get_or table.steps (a + get_or l (p + 1) 0) b → 256 ≤ b
-    → c ≡ get_or table.steps (b + get_or l (p + 2) 0) c → 256 ≤ c → d ≡ get_or table.steps (c + get_or l (p + 3) 0) d
-    → 256 ≤ d → Walking m table l from state p at → Walking m table l from state (p + 4) d
-walking_four m table l from state p at a b c d is_m is small more ra ba rb bb rc bc rd bd w =
-    let w1 = walking_read m table l from state p (p + 1) at a (omega arith) is_m is (small p) (omega arith) ra ba w in
-    let w2 = walking_read m table l from state (p + 1) (p + 2) a b (omega arith) is_m is (small (p + 1)) (omega arith)
-    rb bb w1 in
-    let w3 = walking_read m table l from state (p + 2) (p + 3) b c (omega arith) is_m is (small (p + 2)) (omega arith)
-    rc bc w2 in
-    walking_read m table l from state (p + 3) (p + 4) c d (omega arith) is_m is (small (p + 3)) (omega arith) rd bd w3
-
 abbrev pub none : Option Bool
 none = None
 

@@ -132,25 +132,6 @@ scan_read m table l from p u at start v e is_m is lt more read big s =
     (scan_on m table l from p at start v b is_m is lt (slice_get-get_or l p 0 s.within) (omega arith)
     (get_or_read table.steps _ v inside read 0) big s)
 
--- two steps of it, three and four
-pub scan_two : (m : Nfa) (table : Dfa) (l : List ℕ) (from p start at a b : ℕ) → IsRunnable m → IsDfaOf m table
-    → ((i : ℕ) → get_or l i 0 < 256) → p + 4 < length l → a ≡ get_or table.steps (at + get_or l p 0) a → 256 ≤ a
-    → b ≡ get_or table.steps (a + get_or l (p + 1) 0) b → 256 ≤ b → HasScanned m table l from p at start
-    → HasScanned m table l from (p + 2) b start
-scan_two m table l from p start at a b is_m is small more ra ba rb bb s =
-    scan_read m table l from (p + 1) (p + 2) a start b (omega arith) is_m is (small (p + 1)) (omega arith) rb bb
-    (scan_read m table l from p (p + 1) at start a (omega arith) is_m is (small p) (omega arith) ra ba s)
-
-pub scan_three : (m : Nfa) (table : Dfa) (l : List ℕ) (from p start at a b d : ℕ) → IsRunnable m
-    → IsDfaOf m table → ((i : ℕ) → get_or l i 0 < 256) → p + 4 < length l
-    → a ≡ get_or table.steps (at + get_or l p 0) a → 256 ≤ a
-    → b ≡ get_or table.steps (a + get_or l (p + 1) 0) b → 256 ≤ b
-    → d ≡ get_or table.steps (b + get_or l (p + 2) 0) d → 256 ≤ d → HasScanned m table l from p at start
-    → HasScanned m table l from (p + 3) d start
-scan_three m table l from p start at a b d is_m is small more ra ba rb bb rd bd s =
-    scan_read m table l from (p + 2) (p + 3) b start d (omega arith) is_m is (small (p + 2)) (omega arith) rd bd
-    (scan_two m table l from p start at a b is_m is small more ra ba rb bb s)
-
 pub scan_read_fresh : (m : Nfa) (table : Dfa) (l : List ℕ) (from p u at start v : ℕ) (f : Bool) → u ≡ p + 1
     → IsRunnable m → IsDfaOf m table
     → get_or l p 0 < 256 → u < length l → v ≡ get_or table.steps (at + get_or l p 0) v → 256 ≤ v

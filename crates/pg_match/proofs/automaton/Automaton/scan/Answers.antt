@@ -1,10 +1,13 @@
-use Rattle.std.proofs.Common.{◌≡◌, ◌+◌, ◌/◌, ◌<◌, ◌≤◌, ◌∙◌, get_or, length, arith, sym, true≢false, false}
+use Rattle.std.proofs.Common.{◌≡◌, ◌+◌, ◌<◌, ◌∙◌, get_or, length, arith, sym, true≢false}
 use Rattle.std.proofs.lemmas.List.{get_or_read}
 use Rattle.std.proofs.lemmas.Option.{slice_get-get_or}
+use Rattle.pg_match.specs.Dfas.{HasScanned}
 use Rattle.pg_match.specs.Views.{nfa, dfa}
-use Rattle.pg_match.proofs.CacheLemmas.{in_table, told_dead, row_next}
-use Rattle.pg_match.proofs.ScanLemmas.{scan_first, scan_later, scan_on, scan_fresh}
+use Rattle.pg_match.proofs.CacheLemmas.{in_table, told_dead}
+use Rattle.pg_match.proofs.ScanLemmas.{has_flag, scan_first, scan_later, scan_read, scan_read_fresh}
+use Rattle.pg_match.proofs.automaton.Automaton.scan.Given.{Over}
 use Rattle.pg_match.proofs.automaton.Automaton.scan.Goals as goal
+use Rattle.pg_match.proofs.automaton.Automaton.scan.Goals.{Else-next-lt-STRIDE}
 use Rattle.pg_match.proofs.automaton.Automaton.scan.Goals.{then-from-eq0, else-from-eq0}
 
 pub follow_rows-state-requires-clause-scanned : goal.follow_rows-state-requires-clause-scanned
@@ -25,66 +28,29 @@ follow_rows-state-requires-clause-scanned g c =
           c.requires.from_in (omega arith))
     ]
 
+-- the line was scanned behind the next byte
+next : (g : Over) (c : Else-next-lt-STRIDE g)
+    → HasScanned (nfa c.args.self.now) (dfa c.args.cache.now) c.args.line.now c.args.from (c.loop-place.place + 1)
+    c.index-next.result.now c.loop-place.start
+next g c = scan_read _ _ _ _ c.loop-place.place _ _ _ _ (omega arith) c.requires.built.runs c.requires.cache
+    (omega (arith, c.type_inv.line c.loop-place.place)) (omega (arith, c.loop-place-test.true)) c.index-next.ensures
+    c.if-next-lt-STRIDE.false c.loop-place.invariant
+
 pub index-requires : goal.index-requires
 index-requires g c =
-    let m = nfa c.args.self.now in
-    let table = dfa c.args.cache.now in
-    let l = c.args.line.now in
-    let s = c.loop-place.invariant in
-    let p = c.loop-place.place in
-    let at = c.loop-place.state in
-    let v = c.index-next.result.now in
-    let more : p + 1 < length l = omega (arith, c.loop-place-test.true) in
-    let b = get_or l p 0 in
-    let lt : b < 256 = omega (arith, c.type_inv.line p) in
-    let read = get_or_read table.steps (at + b) v
-    (in_table m table at b c.requires.cache s.row lt) c.index-next.ensures 0 in
-    let big : 256 ≤ v = omega (arith, c.if-next-lt-STRIDE.false) in
-    let row = row_next m table at v b c.requires.cache s.row lt read big in
     let size = c.args.cache.now.flags.ok.0 in
-    omega (arith, row.0.known, c.requires.cache.shape.few, c.requires.cache.shape.flags_size)
+    let s = next g (goal.at.index-requires g c).Else-next-lt-STRIDE in
+    let inside = has_flag _ _ _ c.requires.cache s.row in
+    omega arith
 
 pub loop-place-preserved-then-index : goal.loop-place-preserved-then-index
-loop-place-preserved-then-index g c =
-    let m = nfa c.args.self.now in
-    let table = dfa c.args.cache.now in
-    let l = c.args.line.now in
-    let s = c.loop-place.invariant in
-    let p = c.loop-place.place in
-    let at = c.loop-place.state in
-    let v = c.index-next.result.now in
-    let more : p + 1 < length l = omega (arith, c.loop-place-test.true) in
-    let b = get_or l p 0 in
-    let lt : b < 256 = omega (arith, c.type_inv.line p) in
-    let read = get_or_read table.steps (at + b) v
-    (in_table m table at b c.requires.cache s.row lt) c.index-next.ensures 0 in
-    let big : 256 ≤ v = omega (arith, c.if-next-lt-STRIDE.false) in
-    let row = row_next m table at v b c.requires.cache s.row lt read big in
-    let size = c.args.cache.now.flags.ok.0 in
-    let inside : v / 256 < length table.flags =
-    omega (arith, row.0.known, c.requires.cache.shape.few, c.requires.cache.shape.flags_size) in
-    let fresh = get_or_read table.flags (v / 256) c.index.result.now inside c.index.ensures false in
-    scan_fresh m table l c.args.from p at c.loop-place.start v b c.requires.built.runs c.requires.cache lt
-    (slice_get-get_or l p 0 (omega arith)) more read big s
-    (sym fresh ∙ c.if-index.true)
+loop-place-preserved-then-index g c = scan_read_fresh _ _ _ _ c.loop-place.place _ _ _ c.index-next.result.now _
+    (omega arith) c.requires.built.runs c.requires.cache (omega (arith, c.type_inv.line c.loop-place.place))
+    (omega (arith, c.loop-place-test.true)) c.index-next.ensures c.if-next-lt-STRIDE.false c.index.ensures
+    c.if-index.true c.loop-place.invariant
 
 pub loop-place-preserved : goal.loop-place-preserved
-loop-place-preserved g c =
-    let m = nfa c.args.self.now in
-    let table = dfa c.args.cache.now in
-    let l = c.args.line.now in
-    let s = c.loop-place.invariant in
-    let p = c.loop-place.place in
-    let at = c.loop-place.state in
-    let v = c.index-next.result.now in
-    let more : p + 1 < length l = omega (arith, c.loop-place-test.true) in
-    let b = get_or l p 0 in
-    let lt : b < 256 = omega (arith, c.type_inv.line p) in
-    let read = get_or_read table.steps (at + b) v
-    (in_table m table at b c.requires.cache s.row lt) c.index-next.ensures 0 in
-    let big : 256 ≤ v = omega (arith, c.if-next-lt-STRIDE.false) in
-    scan_on m table l c.args.from p at c.loop-place.start v b c.requires.built.runs c.requires.cache lt
-    (slice_get-get_or l p 0 (omega arith)) more read big s
+loop-place-preserved g c = next g (goal.at.loop-place-preserved g c).Else-next-lt-STRIDE
 
 pub returns-in-Some-false : goal.returns-in-Some-false
 returns-in-Some-false g c = λ run.
