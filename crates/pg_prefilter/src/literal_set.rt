@@ -29,7 +29,7 @@ pub struct LiteralSet<A: Allocator = Global> {
     pub is_enough: bool,
     /// They are all patterns of the query, which are fixed strings.
     pub is_fixed: bool,
-    /// The automaton of the query's patterns is small, and so takes little more than a nanosecond for a byte.
+    /// The automaton of the query's patterns is small: its cache holds all sets of its states.
     has_small_automaton: bool,
     ghost some: { 0 < length (strings_of strings) },
 }
