@@ -59,7 +59,7 @@ digits_and_points = B.plain refl
 
 -- ---- expressions
 
--- what a byte is searched for as where case isn't folded
+-- the set of one byte, where case isn't folded
 abbrev byte : ℕ → Pattern
 byte b = Set (folded false (one b))
 
@@ -133,7 +133,7 @@ star_in_front : Body Basic false (codes "*a") (Cat (byte 42) (byte 97)) 0
 star_in_front = G.single (G.more {text = codes "*"} {next = codes "a"} (G.first (G.item (G.atom (G.byte
     (refl, λ e. omega (arith, e), λ e. omega (arith, e), λ e. inl refl))))) (piece_of_a Basic))
 
--- and so is one behind the `^` that does
+-- in a basic expression a `*` behind the `^` in front is itself
 star_behind_the_front : Body Basic false (codes "^*") (Cat Begin (byte 42)) 0
 star_behind_the_front = G.single (G.more {text = codes "^"} {next = codes "*"} (G.first (G.begin refl))
     (G.item (G.atom (G.byte (refl, λ e. omega (arith, e), λ e. omega (arith, e), λ e. inr refl)))))
@@ -148,7 +148,7 @@ star_in_a_fixed_string = G.some (omega arith) (G.more {text = codes "a"} (G.firs
 
 -- ---- places of faults
 
--- bytes, escapes and counts are what tells them apart
+-- bytes that differ make elements and escapes that differ, and counts are the same only where their numbers are
 abbrev byte_of : Element → ℕ
 byte_of (Single b) = b
 byte_of (Enclosed c content) = c

@@ -35,7 +35,7 @@ byte_without_a_glyph : lines_of ((1 ∷ codes "\\q") ∷ []) (Pattern (fault 1 B
 unfolding digits
 byte_without_a_glyph = refl
 
--- nor is one of more than 200 bytes, or any where a text may be several patterns, or one that is in no text
+-- a pattern isn't shown where it has more than 200 bytes, where a text may be several patterns, or where it is in none
 long_pattern : shown_text (replicate 201 97 ∷ []) (fault 1 UnmatchedGroup 200) ≡ None
 long_pattern = refl
 
