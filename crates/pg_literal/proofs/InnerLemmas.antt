@@ -12,7 +12,8 @@ use Rattle.pg_literal.specs.Literals.{Holds, AreNeeded}
 use Rattle.pg_literal.specs.Added.{Adds}
 use Rattle.pg_literal.specs.Inner.{text_of, AreWithin, IsPart, IsPlain}
 use Rattle.pg_literal.specs.declared.literal.Literal.{Literal}
-use Rattle.pg_literal.proofs.KnownLemmas.{chain_forward, match_forward, alt_unspelled, rep_unspelled, cat_spelled}
+use Rattle.pg_pattern.proofs.LengthLemmas.{chain_forward, match_forward}
+use Rattle.pg_literal.proofs.KnownLemmas.{alt_unspelled, rep_unspelled, cat_spelled}
 use Rattle.pg_literal.proofs.LiteralLemmas.{alone_matched, in_one}
 use Rattle.pg_literal.proofs.RowLemmas.{any-map, any-unmap}
 

@@ -18,15 +18,7 @@ use Rattle.pg_literal.specs.Rows.{StandsAt, row_of}
 use Rattle.pg_literal.specs.Known.{head_of, sets_of, HasRows, IsSureAt, MatchesEmpty, Extends, Hides, HidesLast}
 use Rattle.pg_literal.specs.Known.{MatchesSet, Repeats}
 use Rattle.pg_literal.specs.declared.known.MatchFacts.{MatchFacts}
-
--- spans that go forward do so one behind the other too
-pub chain_forward : (Span : ℕ → ℕ → Type 0) → ((i j : ℕ) → Span i j → i ≤ j) → (count i j : ℕ) → Chain Span count i j
-    → i ≤ j
-chain_forward Span forward zero i j e = omega arith
-chain_forward Span forward (suc count) i j c =
-    let first = forward i c.0 c.1 in
-    let others = chain_forward Span forward count c.0 j c.2 in
-    omega arith
+use Rattle.pg_pattern.proofs.LengthLemmas.{chain_forward, match_forward}
 
 -- the first spans of a chain
 chain_front : (Span : ℕ → ℕ → Type 0) → ((i j : ℕ) → Span i j → i ≤ j) → (count all i j : ℕ) → count ≤ all
@@ -42,20 +34,6 @@ chain_last : (Span : ℕ → ℕ → Type 0) (count i j : ℕ) → 0 < count →
 chain_last Span zero i j some c = absurd (omega arith)
 chain_last Span (suc zero) i j some c = (i, subst (Span i) c.2 c.1)
 chain_last Span (suc (suc count)) i j some c = chain_last Span (suc count) c.0 j (omega arith) c.2
-
--- no match ends before it begins
-pub match_forward : (p : Pattern) (line : List ℕ) (i j : ℕ) → Match p line i j → i ≤ j
-match_forward Empty line i j m = omega arith
-match_forward (Set s) line i j m = omega (arith, m.3)
-match_forward Begin line i j m = omega (arith, m.1)
-match_forward End line i j m = omega (arith, m.1)
-match_forward (Cat p q) line i j m =
-    let first = match_forward p line i m.0 m.1 in
-    let second = match_forward q line m.0 j m.2 in
-    omega arith
-match_forward (Alt p q) line i j (inl m) = match_forward p line i j m
-match_forward (Alt p q) line i j (inr m) = match_forward q line i j m
-match_forward (Rep p least most) line i j m = chain_forward (Match p line) (match_forward p line) m.0 i j m.3
 
 -- the parts of a fixed string's pattern, and the texts that spell them
 Shape : Bool → List ℕ → Pattern → Type 0

@@ -31,7 +31,8 @@ use Rattle.pg_literal.specs.Known.{IsChosen, head_of, best_of, sets_of, IsNothin
 use Rattle.pg_literal.specs.Added.{Adds, AddsOnly}
 use Rattle.pg_literal.specs.declared.known.MatchFacts.{MatchFacts}
 use Rattle.pg_literal.specs.declared.literal.Literal.{Literal}
-use Rattle.pg_literal.proofs.KnownLemmas.{match_forward, alt_unspelled}
+use Rattle.pg_pattern.proofs.LengthLemmas.{match_forward}
+use Rattle.pg_literal.proofs.KnownLemmas.{alt_unspelled}
 use Rattle.pg_literal.proofs.RowLemmas.{stands_within, stands_append, any-map, any-unmap, product_some, fixed_text}
 use Rattle.pg_literal.proofs.RowLemmas.{fixed_backwards}
 

@@ -10,7 +10,7 @@ use Rattle.pg_pattern.specs.Patterns.{Pattern, Empty, Set, Begin, End, Cat, Alt,
 use Rattle.pg_pattern.specs.Matches.{Match, Chain}
 use Rattle.pg_pattern.specs.declared.bounds.Bounds.TheVariants.{Any}
 use Rattle.pg_literal.specs.Rests.{HasNoBegin, IgnoresFront}
-use Rattle.pg_literal.proofs.KnownLemmas.{match_forward}
+use Rattle.pg_pattern.proofs.LengthLemmas.{match_forward}
 
 module _ (line : List ℕ) (k : ℕ) (within : k ≤ length line) where
   abbrev rest : List ℕ

@@ -2,11 +2,14 @@
 use Rattle.std.proofs.Common.{[], ◌≡◌, ◌≢◌, ℕ, zero, suc, ◌+◌, ◌-◌, ◌<◌, ◌≤◌, inl, inr, Bool, true≢false, not, eqb}
 use Rattle.std.proofs.Common.{ne_eqb, List, length, take, take_all, Some, refl, sym, ap, ◌∙◌, subst, arith, IsTrue}
 use Rattle.std.proofs.Common.{sum_by, Contains, All}
-use Rattle.std.specs.Prelude.{slice_get}
-use Rattle.std.proofs.lemmas.Bool.{cases_eq}
+use Rattle.std.specs.Prelude.{slice_get, Option, None, IfSome}
+use Rattle.std.proofs.lemmas.Bool.{cases_eq, cases_lt}
 use Rattle.std.proofs.lemmas.List.Sums.{sum_by_more, sum_by-take-le}
 use Rattle.std.proofs.lemmas.Option.{slice_get_within, slice_get-get_or, get_or_from_slice_get}
 use Rattle.pg_pattern.specs.Matches.{Match}
+use Rattle.pg_pattern.specs.Hits.{Hit}
+use Rattle.pg_pattern.specs.Lengths.{HitsEndWithin}
+use Rattle.pg_match.specs.Stands.{RunsEndWithin}
 use Rattle.pg_pattern.specs.declared.bounds.Bounds.{Bounds}
 use Rattle.pg_pattern.specs.Patterns.{IsProper, Pattern}
 use Rattle.pg_match.specs.Sizes.{size_of, list_size}
@@ -219,6 +222,29 @@ module _ (m : Nfa) (trees : List Pattern) (proper : All IsProper trees) where
     same_bounds = same;
     size = b.size ∙ ap (λ xs. sum_by size_of xs + (length trees - 1) + 1) (take_all (length trees) trees (omega arith));
   }
+
+-- where a hit of the patterns begins one ends within so many bytes, and so does a run
+pub runs_end : (m : Nfa) (trees : List Pattern) (bounds : Bounds) (bytes : ℕ) → IsMachineOf m trees bounds
+    → HitsEndWithin trees bounds bytes → RunsEndWithin m bytes
+runs_end m trees bounds bytes is near = λ l i j le within run. elim (cases_lt i j) [
+  | inr over ↦ (j, le, omega (arith, over), run)
+  | inl longer ↦
+      let hit : Hit trees m.bounds l i j = record {
+        ordered = le;
+        within = within;
+        begins = run.0;
+        ends = run.1;
+        matched = is.agrees.sound l run.2.0 i j run.2.1 (inl longer);
+      } in
+      let k = near l i j (subst (λ b. Hit trees b l i j) is.same_bounds hit) in
+      let other = subst (λ b. Hit trees b l i k.0) (sym is.same_bounds) k.2 in
+      (k.0, other.ordered, k.1, (other.begins, other.ends, (is.agrees.complete l i k.0 other.matched).1))
+]
+
+pub reach_known : (m : Nfa) (trees : List Pattern) (bounds : Bounds) (reach : Option ℕ) → IsMachineOf m trees bounds
+    → IfSome reach (HitsEndWithin trees bounds) → IfSome reach (RunsEndWithin m)
+reach_known m trees bounds None is near = tt
+reach_known m trees bounds (Some bytes) is near = runs_end m trees bounds bytes is near
 
 pub runnable : (m : Nfa) (trees : List Pattern) (c : ℕ) → HasFirst m.states trees c m.start → IsRunnable m
 runnable m trees c b = record { tidy = b.tidy; start = b.start_in; accept = b.accept; only = b.only }

@@ -2,7 +2,7 @@
 use Rattle.std.proofs.Common.{◌≡◌, ◌≢◌, ◌∙◌, ℕ, zero, suc, ◌+◌, ◌-◌, ◌/◌, ◌<◌, ◌≤◌, inl, inr, List, length, Bool, true}
 use Rattle.std.proofs.Common.{false, Option, Some, None}
 use Rattle.std.proofs.Common.{refl, sym, subst, arith, get_or}
-use Rattle.std.specs.Prelude.{slice_index, slice_get}
+use Rattle.std.specs.Prelude.{◌↔◌, slice_index, slice_get, max, IfSome, IsTrue}
 use Rattle.std.proofs.lemmas.Bool.{cases_lt}
 use Rattle.std.proofs.lemmas.List.{get_or_read}
 use Rattle.std.proofs.lemmas.Option.{slice_get-get_or}
@@ -11,8 +11,8 @@ use Rattle.pg_pattern.specs.Bounds.{MayBegin, MayEnd}
 use Rattle.pg_match.specs.Closures.{AreSeeds}
 use Rattle.pg_match.specs.Searches.{IsBest}
 use Rattle.pg_match.specs.Steps.{Goes, Reads, ReadsNone, HitBefore, EndsBehind}
-use Rattle.pg_match.specs.Stands.{Stands, HasRun, NoneBefore}
-use Rattle.pg_match.specs.Dfas.{Dfa, flag_at, In, IsDfaOf, IsAtRow, StandsAt, HasScanned}
+use Rattle.pg_match.specs.Stands.{Stands, HasRun, NoneBefore, RunsEndWithin, latest_start}
+use Rattle.pg_match.specs.Dfas.{Dfa, flag_at, In, IsDfaOf, IsAtRow, StandsAt, HasScanned, Settles, Finishes}
 use Rattle.pg_match.specs.declared.state.State.{State}
 use Rattle.pg_match.specs.declared.state.State.TheVariants.{Accept}
 use Rattle.pg_match.proofs.SearchLemmas.{edge_moves}
@@ -149,6 +149,43 @@ scan_read_fresh m table l from p u at start v f e is_m is lt more read big fresh
 
 pub has_flag : (m : Nfa) (table : Dfa) (v : ℕ) → IsDfaOf m table → IsAtRow table v → v / 256 < length table.flags
 has_flag m table v is row = omega (arith, row.known, is.shape.few, is.shape.flags_size)
+
+-- what a row tells of lines in which it stands before a byte, it tells of this one
+pub settled_here : (m : Nfa) (b : ℕ) (S : ℕ → Type 0) (l : List ℕ) (p : ℕ) → p < length l → slice_get l p ≡ Some b
+    → (found : Option Bool) → IfSome found (Settles m b S)
+    → IfSome found (λ answer. (from : ℕ) → from ≤ p + 1 → Stands m l from p S → IsTrue answer ↔ HasRun m l from)
+settled_here m b S l p lt byte None settles = tt
+settled_here m b S l p lt byte (Some answer) settles = λ from le stands. settles l from p lt stands byte
+
+pub finished_here : (m : Nfa) (b : ℕ) (S : ℕ → Type 0) (l : List ℕ) (p : ℕ) → p + 1 ≡ length l
+    → slice_get l p ≡ Some b → (found : Option Bool) → IfSome found (Finishes m b S)
+    → IfSome found (λ answer. (from : ℕ) → from ≤ p + 1 → Stands m l from p S → IsTrue answer ↔ HasRun m l from)
+finished_here m b S l p end byte None finishes = tt
+finished_here m b S l p end byte (Some answer) finishes = λ from le stands. finishes l from p stands byte end le
+
+-- no hit begins more than the reach before a place before which none ends
+near_none : (m : Nfa) (l : List ℕ) (from p bytes : ℕ) (S : ℕ → Type 0) → RunsEndWithin m bytes → Stands m l from p S
+    → NoneBefore m l from (p - bytes)
+near_none m l from p bytes S near s = λ i j ge early le within run.
+    let k = near l i j le within run in s.none i k.0 ge k.1 (omega (arith, k.2, early)) k.3
+
+pub scan_reach : (m : Nfa) (table : Dfa) (l : List ℕ) (from p at start : ℕ) (reach : Option ℕ)
+    → IfSome reach (RunsEndWithin m) → HasScanned m table l from p at start
+    → (from ≤ latest_start reach start p) × (latest_start reach start p ≤ length l)
+    × NoneBefore m l from (latest_start reach start p)
+scan_reach m table l from p at start None near s = (s.later, s.upto, s.none)
+scan_reach m table l from p at start (Some bytes) near s = elim (cases_lt start (p - bytes)) [
+  | inl low ↦
+      let is : max start (p - bytes) ≡ p - bytes = omega arith in
+      subst (λ v. (from ≤ v) × (v ≤ length l) × NoneBefore m l from v) (sym is) (
+        omega (arith, s.later, low),
+        omega (arith, s.within),
+        near_none m l from p bytes (In table (at / 256)) near s.stands,
+      )
+  | inr high ↦
+      let is : max start (p - bytes) ≡ start = omega arith in
+      subst (λ v. (from ≤ v) × (v ≤ length l) × NoneBefore m l from v) (sym is) (s.later, s.upto, s.none)
+]
 
 -- where each seed that reads the byte ends a match behind it, each run from the start does
 one_byte : (t : List State) (l : List ℕ) (x i b : ℕ) (seeds : List ℕ) → AreSeeds t x seeds → slice_get l i ≡ Some b

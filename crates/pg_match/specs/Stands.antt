@@ -1,5 +1,5 @@
 -- What the set of a place holds.
-use Rattle.std.specs.Prelude.{ℕ, ◌<◌, ◌≤◌, List, length, slice_get}
+use Rattle.std.specs.Prelude.{ℕ, ◌+◌, ◌-◌, ◌<◌, ◌≤◌, List, length, max, Option, Some, None, slice_get}
 use Rattle.pg_match.specs.Automata.{Nfa, Edge, Runs}
 use Rattle.pg_pattern.specs.Bounds.{MayBegin, MayEnd}
 use Rattle.pg_match.specs.Closures.{Leads}
@@ -27,3 +27,16 @@ abbrev pub NoneBefore : Nfa → List ℕ → ℕ → ℕ → Type 0
 NoneBefore m l from start =
     (i j : ℕ) → from ≤ i → i < start → i ≤ j → j ≤ length l
     → RunsFrom m.states l m.start (MayBegin m.bounds l) (MayEnd m.bounds l) i j → ⊥
+
+-- where one of these spans begins, one ends within so many bytes
+abbrev pub RunsEndWithin : Nfa → ℕ → Type 0
+RunsEndWithin m bytes =
+    (l : List ℕ) (i j : ℕ) → i ≤ j → j ≤ length l
+    → RunsFrom m.states l m.start (MayBegin m.bounds l) (MayEnd m.bounds l) i j
+    → (k : ℕ) × (i ≤ k) × (k ≤ i + bytes) × RunsFrom m.states l m.start (MayBegin m.bounds l) (MayEnd m.bounds l) i k
+
+-- The place before which no hit begins, where none begins before `start` and none ends before another place: within the
+-- reach of a hit's begin one ends.
+abbrev pub latest_start : Option ℕ → ℕ → ℕ → ℕ
+latest_start None start place = start
+latest_start (Some reach) start place = max start (place - reach)

@@ -9,7 +9,8 @@ use Rattle.pg_match.specs.declared.search.StateSets.{StateSets}
 use Rattle.pg_match.specs.Dfas.{Dfa, IsDfaOf}
 use Rattle.pg_match.specs.Anchored.{IsAnchoredDfaOf}
 use Rattle.pg_match.specs.declared.dfa_cache.Cache.{Cache}
-use Rattle.std.specs.Prelude.{◌≡◌, ℕ, ◌+◌, Option, Some, None, length}
+use Rattle.pg_match.specs.Stands.{RunsEndWithin}
+use Rattle.std.specs.Prelude.{◌≡◌, ℕ, ◌+◌, Option, Some, None, IfSome, length}
 
 abbrev pub nfa : {A : Type 0} → Automaton A → Nfa
 nfa m = record { states = m.states.items; start = m.start; bounds = m.bounds; some = m.some }
@@ -28,11 +29,13 @@ added s = (members s.current).added + (members s.next).added
 abbrev pub Tells : {A : Type 0} → StateSets A → StateSets A → Type 0
 Tells old new = new.visits + added old ≡ old.visits + added new
 
--- an automaton as it is built: a table that can be run, the seeds of its start, and what each byte leads to from these
+-- an automaton as it is built: a table that can be run, the seeds of its start, and what each byte leads to from these;
+-- and where its reach is known, that is true
 pub record IsBuilt {A : Type 0} (m : Automaton A) : Type 0 where
   pub runs : IsRunnable (nfa m)
   pub seeds : AreSeeds m.states.items m.start m.seeds.items
   pub starts : AreStarts m.states.items m.seeds.items m.starts.targets.items m.starts.cuts.items m.starts.accepts
+  pub reach : IfSome m.reach (RunsEndWithin (nfa m))
 
 -- a cache as plain data
 abbrev pub dfa : {A : Type 0} → Cache A → Dfa

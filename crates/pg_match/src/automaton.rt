@@ -17,6 +17,8 @@ pub struct Automaton<A: Allocator = Global> {
     pub bounds: Bounds,
     /// Whether there is a pattern. Without one nothing matches.
     pub some: bool,
+    /// Within how many bytes of where a hit begins one ends, if that is known.
+    pub reach: Option<usize>,
 }
 
 impl<A: Allocator> Drop for Automaton<A> {
@@ -28,6 +30,7 @@ impl<A: Allocator> Drop for Automaton<A> {
             starts: _,
             bounds: _,
             some: _,
+            reach: _,
         } = self;
     }
 }

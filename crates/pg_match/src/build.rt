@@ -14,7 +14,7 @@ use crate::closure::seeds;
 use crate::size::size;
 use crate::starts::starts_of;
 use crate::state::{ACCEPT, State};
-use pg_pattern::{Bounds, Tree};
+use pg_pattern::{Bounds, Tree, hit_reach};
 use std::alloc::{AllocError, Allocator};
 
 /// A state that is to be a `Split`. It is `Fail` until the first of the states that it leads to is there.
@@ -66,6 +66,7 @@ pub(crate) fn assemble<A: Allocator + Copy>(
         starts,
         bounds,
         some: !trees.is_empty(),
+        reach: hit_reach(trees, bounds),
     })
 }
 

@@ -1,5 +1,5 @@
 //! What the DFA cache tells of the hits of a line from a place on, before any marks are set.
-ghost use Rattle.std.specs.Prelude.{◌≡◌, ◌+◌, ◌*◌, ◌/◌, ◌<◌, ◌≤◌, ◌^◌, length, IsTrue, List, MatchOption};
+ghost use Rattle.std.specs.Prelude.{◌≡◌, ℕ, ◌+◌, ◌*◌, ◌/◌, ◌<◌, ◌≤◌, ◌^◌, ◌↔◌, length, IfSome, IsTrue, List, MatchOption};
 ghost use Rattle.pg_pattern.specs.Patterns.{Pattern};
 ghost use Rattle.pg_pattern.specs.Hits.{HasNoNext, IsNext};
 ghost use Rattle.pg_match.specs.Machines.{Agrees};
@@ -8,12 +8,13 @@ ghost use Rattle.pg_match.specs.Anchored.{IsLongestFrom};
 ghost use Rattle.pg_match.specs.Searches.{IsBestFrom};
 ghost use Rattle.pg_match.specs.Closures.{AreSeeds};
 ghost use Rattle.pg_match.specs.Steps.{EndsBehind};
-ghost use Rattle.pg_match.specs.Dfas.{IsDfaOf, HasScanned, Scanned};
+ghost use Rattle.pg_match.specs.Stands.{HasRun, latest_start};
+ghost use Rattle.pg_match.specs.Dfas.{IsDfaOf, IsAtRow, StandsAt, HasScanned, Scanned};
 ghost use Rattle.pg_match.specs.Views.{nfa, buffers, dfa, added, CachesDfaOf, IsBuilt};
 ghost use Rattle.pg_match.specs.Views.{CachesAnchoredDfaOf, Tells};
 
 use crate::automaton::Automaton;
-use crate::dfa_cache::{Cache, DEAD, EMPTY, FIRST, HIT, LOST, STRIDE};
+use crate::dfa_cache::{Cache, EMPTY, FIRST, LOST, STRIDE};
 use crate::dfa_search::Next;
 use crate::search::StateSets;
 use crate::state::{ACCEPT, State};
@@ -95,6 +96,34 @@ impl<A: Allocator> Automaton<A> {
         }
     }
 
+    /// The place before which no hit begins, where none begins before `start` and none ends before `place`.
+    fn latest_start(&self, start: usize, place: usize) -> usize
+        ensures { result ≡ latest_start self.now.reach start place }
+    {
+        match self.reach {
+            Some(reach) => start.max(place.saturating_sub(reach)),
+            None => start,
+        }
+    }
+
+    /// Whether there is a hit from where a walk began on, if what is remembered of the row at which it stopped, and of
+    /// the byte there, tells that.
+    fn recall_stop(&self, cache: &Cache<A>, line: &[u8], state: u32, place: usize) -> Option<bool>
+        requires built { IsBuilt self.now }
+        requires cache { IsDfaOf (nfa self.now) (dfa cache.now) }
+        requires row { IsAtRow (dfa cache.now) state }
+        requires within { place < length line.now }
+        ensures { IfSome result (λ answer. (from : ℕ) → from ≤ place + 1
+            → StandsAt (nfa self.now) (dfa cache.now) line.now from place state
+            → IsTrue answer ↔ HasRun (nfa self.now) line.now from) }
+    {
+        if place + 1 < line.len() {
+            self.recall_step(cache, state, line[place])
+        } else {
+            self.recall_end(cache, state, line[place])
+        }
+    }
+
     /// Looks for hits from a place on in a line that isn't empty, by what is remembered.
     pub(crate) fn scan(&self, cache: &Cache<A>, line: &[u8], from: usize) -> Scan
         requires built { IsBuilt self.now }
@@ -114,14 +143,8 @@ impl<A: Allocator> Automaton<A> {
         } = self.follow_rows(cache, line, from, first, from.saturating_sub(1));
         while place + 1 < line.len() {
             let next = cache.steps[state as usize + line[place] as usize];
-            if next == HIT {
-                return Scan::Known(start);
-            }
-            if next == DEAD {
-                return Scan::NoHit;
-            }
             if next < STRIDE {
-                return Scan::Unknown(start);
+                break;
             }
             state = next;
             place += 1;
@@ -129,7 +152,8 @@ impl<A: Allocator> Automaton<A> {
                 start = place;
             }
         }
-        match self.recall_end(cache, state, line[place]) {
+        let start = self.latest_start(start, place);
+        match self.recall_stop(cache, line, state, place) {
             Some(false) => Scan::NoHit,
             Some(true) => Scan::Known(start),
             None => Scan::Unknown(start),

@@ -3,3 +3,4 @@ pub mod TestLemmas
 pub mod PartLaws
 pub mod Examples
 pub mod PatternLemmas
+pub mod LengthLemmas

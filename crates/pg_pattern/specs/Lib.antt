@@ -5,3 +5,4 @@ pub mod Bounds
 pub mod Hits
 pub mod Tests
 pub mod Parts
+pub mod Lengths

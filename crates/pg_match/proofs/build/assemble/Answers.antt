@@ -1,13 +1,15 @@
-use Rattle.std.proofs.Common.{◌≡◌, ℕ, List, length, map, arith, subst, refl, Some, ap, ◌∙◌}
+use Rattle.std.proofs.Common.{◌≡◌, ℕ, List, length, map, not, arith, subst, refl, Some, ap, ◌∙◌}
 use Rattle.std.specs.Prelude.{slice_get, option_map}
 use Rattle.std.proofs.lemmas.List.{length-map}
 use Rattle.std.proofs.lemmas.Option.{slice_get_read, slice_get-map}
 use Rattle.pg_pattern.specs.Trees.{pattern}
 use Rattle.pg_match.proofs.BuildLemmas.{HasFirst}
+use Rattle.pg_match.specs.Automata.{Nfa}
+use Rattle.pg_match.specs.Machines.{IsMachineOf}
 use Rattle.pg_match.specs.Starts.{AreStarts}
 use Rattle.pg_match.specs.declared.state.State.{State}
 use Rattle.pg_match.proofs.BuildLemmas.{each_proper, room_for, building_one, building_more, built, runnable, any_some}
-use Rattle.pg_match.proofs.BuildLemmas.{some_any, begun}
+use Rattle.pg_match.proofs.BuildLemmas.{some_any, begun, reach_known}
 use Rattle.pg_match.proofs.build.assemble.Goals as goal
 use Rattle.pg_match.proofs.build.assemble.Goals.{then-i-eq0, else-i-eq0+in_ok-start}
 
@@ -55,10 +57,21 @@ loop-i-preserved g c =
 pub returns : goal.returns
 returns g c =
     let trees = c.args.trees.now in
+    let patterns = map pattern trees in
     let starts = c.in_ok-starts.starts in
     let same = length-map trees pattern in
-    let end : c.loop-i.i ≡ length (map pattern trees) = omega (arith, same) in
-    let b = subst (λ i. HasFirst c.loop-i.states.items (map pattern trees) i c.loop-i.start) end c.loop-i.invariant in (
+    let end : c.loop-i.i ≡ length patterns = omega (arith, same) in
+    let b = subst (λ i. HasFirst c.loop-i.states.items patterns i c.loop-i.start) end c.loop-i.invariant in
+    let m : Nfa = record {
+      states = c.loop-i.states.items;
+      start = c.loop-i.start;
+      bounds = c.args.bounds;
+      some = not c.is_empty.result;
+    } in
+    let machine : IsMachineOf m patterns c.args.bounds =
+    built m patterns c.requires.proper c.args.bounds b refl
+    (λ h. let n = any_some (length trees) _ c.is_empty.ensures h in omega (arith, same))
+    (λ h. some_any (length trees) _ c.is_empty.ensures (omega (arith, same))) in (
       record {
         runs = runnable _ _ _ c.loop-i.invariant;
         seeds = rw c.deref.ensures.value at c.in_ok-seeds.ensures;
@@ -67,10 +80,9 @@ returns g c =
             λ t seeds. AreStarts t seeds starts.targets.items starts.cuts.items starts.accepts in
             subst (λ t. P t c.in_ok-seeds.seeds.items) c.deref-2.ensures.value
             (subst (P c.deref-2.result.now) c.deref-3.ensures.value c.in_ok-starts.ensures);
+        reach = reach_known m patterns c.args.bounds c.hit_reach.result machine c.hit_reach.ensures;
       },
-      built _ (map pattern trees) c.requires.proper c.args.bounds b refl
-          (λ h. let n = any_some (length trees) _ c.is_empty.ensures h in omega (arith, same))
-          (λ h. some_any (length trees) _ c.is_empty.ensures (omega (arith, same))),
+      machine,
     )
 
 pub push-requires : goal.push-requires

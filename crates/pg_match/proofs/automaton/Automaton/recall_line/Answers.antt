@@ -1,4 +1,4 @@
-use Rattle.std.proofs.Common.{◌+◌, ◌∙◌, inl, inr, arith, length, sym}
+use Rattle.std.proofs.Common.{◌∙◌, inl, inr, arith, length, sym}
 use Rattle.std.proofs.lemmas.Bool.{eqb-false}
 use Rattle.pg_match.specs.Views.{nfa, dfa}
 use Rattle.pg_match.proofs.LineLemmas.{line_begins, line_finished, line_settled}

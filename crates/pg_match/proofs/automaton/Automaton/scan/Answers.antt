@@ -1,10 +1,7 @@
-use Rattle.std.proofs.Common.{◌≡◌, ◌+◌, ◌<◌, ◌∙◌, get_or, length, arith, sym, true≢false}
-use Rattle.std.proofs.lemmas.List.{get_or_read}
-use Rattle.std.proofs.lemmas.Option.{slice_get-get_or}
+use Rattle.std.proofs.Common.{◌+◌, ◌∙◌, arith, sym, true≢false}
 use Rattle.pg_match.specs.Dfas.{HasScanned}
 use Rattle.pg_match.specs.Views.{nfa, dfa}
-use Rattle.pg_match.proofs.CacheLemmas.{in_table, told_dead}
-use Rattle.pg_match.proofs.ScanLemmas.{has_flag, scan_first, scan_later, scan_read, scan_read_fresh}
+use Rattle.pg_match.proofs.ScanLemmas.{has_flag, scan_first, scan_later, scan_read, scan_read_fresh, scan_reach}
 use Rattle.pg_match.proofs.automaton.Automaton.scan.Given.{Over}
 use Rattle.pg_match.proofs.automaton.Automaton.scan.Goals as goal
 use Rattle.pg_match.proofs.automaton.Automaton.scan.Goals.{Else-next-lt-STRIDE}
@@ -54,26 +51,16 @@ loop-place-preserved g c = next g (goal.at.loop-place-preserved g c).Else-next-l
 
 pub returns-in-Some-false : goal.returns-in-Some-false
 returns-in-Some-false g c = λ run.
-    let l = c.args.line.now in
     let s = c.loop-place.invariant in
-    let p = c.loop-place.place in
-    let lt = s.within in
-    let end : p + 1 ≡ length l = omega (arith, c.loop-place-test.false) in
-    let so = c.in-Some-false.ensures l c.args.from p s.stands (slice_get-get_or l p 0 lt) end s.near in
+    let so = c.in-Some-false.ensures c.args.from s.near s.stands in
     true≢false (sym (so.1 run) ∙ c.in-Some-false.field-0-test)
 
-pub returns-then-next-eq-DEAD : goal.returns-then-next-eq-DEAD
-returns-then-next-eq-DEAD g c = λ run.
-    let m = nfa c.args.self.now in
-    let table = dfa c.args.cache.now in
-    let l = c.args.line.now in
-    let s = c.loop-place.invariant in
-    let p = c.loop-place.place in
-    let at = c.loop-place.state in
-    let v = c.index-next.result.now in
-    let b = get_or l p 0 in
-    let lt : b < 256 = omega (arith, c.type_inv.line p) in
-    let read = get_or_read table.steps (at + b) v
-    (in_table m table at b c.requires.cache s.row lt) c.index-next.ensures 0 in
-    told_dead m table at v b c.requires.cache s.row lt read c.if-next-eq-DEAD.true l c.args.from p s.within s.stands
-    (slice_get-get_or l p 0 s.within) run
+pub returns-in-Some-true : goal.returns-in-Some-true
+returns-in-Some-true g c = rw c.latest_start-start.ensures
+    (scan_reach (nfa c.args.self.now) (dfa c.args.cache.now) c.args.line.now c.args.from c.loop-place.place
+    c.loop-place.state c.loop-place.start c.args.self.now.reach c.requires.built.reach c.loop-place.invariant)
+
+pub returns-in-None : goal.returns-in-None
+returns-in-None g c = rw c.latest_start-start.ensures
+    (scan_reach (nfa c.args.self.now) (dfa c.args.cache.now) c.args.line.now c.args.from c.loop-place.place
+    c.loop-place.state c.loop-place.start c.args.self.now.reach c.requires.built.reach c.loop-place.invariant)

@@ -1,8 +1,8 @@
 use Rattle.std.proofs.Common.{◌*◌, arith, refl, subst}
 use Rattle.std.specs.Prelude.{IfSome}
-use Rattle.pg_literal.specs.Reaches.{HasAtMost, HaveAtMost}
-use Rattle.pg_literal.proofs.ReachLemmas.{checked_gives, no_round, rounds_long}
-use Rattle.pg_literal.proofs.reaches.longest_rounds.Goals as goal
+use Rattle.pg_pattern.specs.Lengths.{HasAtMost, HaveAtMost}
+use Rattle.pg_pattern.proofs.LengthLemmas.{checked_gives, no_round, rounds_long}
+use Rattle.pg_pattern.proofs.lengths.longest_rounds.Goals as goal
 
 pub returns-then-count-eq0 : goal.returns-then-count-eq0
 returns-then-count-eq0 c = λ p each. no_round p c.args.count 0 (omega arith)

@@ -1,9 +1,9 @@
 use Rattle.std.proofs.Common.{◌+◌, ◌-◌, arith, rules}
 use Rattle.pg_pattern.specs.Trees.{pattern}
 use Rattle.pg_pattern.proofs.PatternLemmas.{pattern-cat, pattern-alt, pattern-rep}
-use Rattle.pg_literal.specs.Reaches.{EndsWithin}
-use Rattle.pg_literal.proofs.ReachLemmas.{checked_gives, cat_ends, alt_ends, no_round_ends, rep_ends}
-use Rattle.pg_literal.proofs.reaches.+nearest_end.Goals as goal
+use Rattle.pg_pattern.specs.Lengths.{EndsWithin}
+use Rattle.pg_pattern.proofs.LengthLemmas.{checked_gives, cat_ends, alt_ends, no_round_ends, rep_ends}
+use Rattle.pg_pattern.proofs.lengths.+nearest_end_in.Goals as goal
 
 pub returns-then-least-eq0 : goal.returns-then-least-eq0
 returns-then-least-eq0 g t c =
@@ -31,7 +31,7 @@ pub returns-in_ok-last-in-Rep : goal.returns-in_ok-last-in-Rep
 returns-in_ok-last-in-Rep g t c =
     let one = pattern c.in-Rep.inner.value in
     let least = c.in-Rep.least in
-    let before = c.longest_rounds.ensures (pattern c.deref-in-Rep.result.now) c.longest-in-Rep.ensures in
+    let before = c.longest_rounds.ensures (pattern c.deref-in-Rep.result.now) c.longest_in-in-Rep.ensures in
     let first = rw c.in_ok-first-in-Rep.was at (rw c.deref-in-Rep.ensures at before) in
     let last = rw c.deref-in-Rep-2.ensures at c.in_ok-last-in-Rep.ensures in
     let m = c.in_ok-first-in-Rep.first in
