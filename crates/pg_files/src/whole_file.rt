@@ -1,4 +1,4 @@
-//! Small files that are opened and read before their turn comes.
+//! Files that are opened and read before their turn comes.
 ghost use Rattle.std.specs.Prelude.{◌≡◌, ◌≤◌, ◌<◌, ◌++◌, [], IfSome, drop, length, take};
 
 use crate::disk_store::regular_id;
@@ -9,9 +9,6 @@ use std::fs;
 use std::fs::OpenFile;
 use std::io::Read;
 use std::rt::Files;
-
-/// A longer file isn't read ahead, in bytes.
-const LONGEST: u64 = 32_768;
 
 /// A regular file that was opened, read to its end and closed again.
 pub struct WholeFile<A: Allocator = Global> {
@@ -76,16 +73,16 @@ impl<A: Allocator> WholeFile<A> {
 }
 
 impl<A: Allocator + Copy> WholeFile<A> {
-    /// The file that the system opens for a path, if it is a regular one of at most 32 KiB that can be read now, and
-    /// there is memory for it.
-    pub fn open<R: Files>(rt: &R, alloc: A, path: &str) -> Option<WholeFile<A>>
+    /// The file that the system opens for a path, if it is a regular one of at most so many bytes that can be read now,
+    /// and there is memory for it.
+    pub fn open<R: Files>(rt: &R, alloc: A, path: &str, most: usize) -> Option<WholeFile<A>>
         ensures { IfSome result (λ file. file.path.items ≡ path.now) }
     {
         let mut file = fs::open(rt, path).ok()?;
         let metadata = file.metadata();
         let len = metadata.as_ref().ok()?.len();
         let id = regular_id(metadata)?;
-        if len > LONGEST {
+        if len > most as u64 {
             return None;
         }
         let bytes = read_whole(alloc, &mut file, len as usize)?;

@@ -22,6 +22,9 @@ pub(crate) fn list<R: Files + Drop>(
     Ok(listing)
 }
 
+/// A longer file isn't read ahead, in bytes.
+const LONGEST: usize = 32_768;
+
 /// What stands at an entry's path, and what was read there.
 pub(crate) struct Found {
     path: String,
@@ -61,7 +64,7 @@ impl Found {
         let kind = tree.kind(path.as_str(), scope.follows).ok()?;
         let is_kept = scope.keeps_entry(path.as_str(), kind);
         let file = if is_kept && kind == FileKind::Regular {
-            WholeFile::open(&rt, alloc, path.as_str())
+            WholeFile::open(&rt, alloc, path.as_str(), LONGEST)
         } else {
             None
         };
