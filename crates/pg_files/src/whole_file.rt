@@ -53,6 +53,13 @@ fn read_whole<A: Allocator + Copy, F: Read>(
 }
 
 impl<A: Allocator> WholeFile<A> {
+    /// How many bytes it has.
+    pub fn len(&self) -> usize
+        ensures { result ≡ length self.now.bytes.items }
+    {
+        self.bytes.len()
+    }
+
     /// Gives the next bytes, where so many were given. It gives none at the end, or where there is no room.
     pub(crate) fn read(&self, given: &mut usize, into: &mut [u8]) -> usize
         ensures consumes { drop given.old self.now.bytes.items
