@@ -232,6 +232,10 @@ def cases(folder, megabytes):
     texts.make_empty_files(folder / "empty", 30_000)
     for options in ("-rcF", "-rlF"):
         yield Case([options, "needle"], "empty", [options.replace("r", ""), "needle"], is_tree=True)
+    texts.make_sources(folder / "sources", words)
+    for options in (["-rF", words[40]], ["-rnw", words[400]], ["-riF", words[400]], ["-rlF", words[40]]):
+        yield Case(options, "sources", [options[0].replace("r", ""), options[1]], is_tree=True)
+    yield Case(["-rcE", "[a-z]+ing"], "sources", ["-c", "[a-z]+ing"], is_tree=True)
     write(folder / "part", texts.common(8))
     (folder / "large").mkdir()
     for number in range(20):

@@ -199,3 +199,16 @@ def make_empty_files(folder, count):
     folder.mkdir(parents=True)
     for file in range(count):
         (folder / f"f{file}").touch()
+
+
+def make_sources(folder, words):
+    """Some 5,000 files as in a tree of sources: of 200 bytes to 400 KB, most of them of some KB, in 1,500 directories
+    within one another, most of which hold few files."""
+    chance, text, below = random.Random(31), prose(words, 1), [folder]
+    for number in range(1_500):
+        below.append(chance.choice(below) / f"d{number}")
+        below[-1].mkdir(parents=True)
+        for file in range(int(chance.expovariate(1 / 4))):
+            size = min(400_000, int(200 * 2 ** max(0, chance.gauss(5, 2))))
+            start = chance.randrange(len(text) - size)
+            (below[-1] / f"f{file}").write_bytes(text[start : start + size])

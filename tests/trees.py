@@ -1,10 +1,11 @@
 #!/usr/bin/env python3
 """Compares what the program writes of trees with helpers and without: `tests/trees.py [--program PATH]`
 
-In a recursive search other threads look at entries, and open and read small files, before their turn comes. Trees are
-made that have what may mislead them: many entries and none, files of the size up to which they are read ahead and one
-byte more, directories further down than is looked ahead, links, FIFOs, names that are not UTF-8, and the file that the
-output goes to. Each command line below is run over them by one thread (`--round 1`) and as it stands, RUNS times each,
+In a recursive search other threads look at entries, and open and read files that aren't long, before their turn comes.
+Trees are made that have what may mislead them: many entries and none, files of the size up to which they are read ahead
+and one byte more, more of them than are held at once, small directories whose entries are looked at together with them
+and such with one entry more, directories further down than is looked ahead, links, FIFOs, names that are not UTF-8, and
+the file that the output goes to. Each command line below is run over them by one thread (`--round 1`) and as it stands, RUNS times each,
 and has to give the same bytes, faults and status each time; where GNU grep visits directories in another order, its
 lines are sorted as ours are. A run with helpers has to show other threads, and one of one thread none. The last line is
 `N passed, M failed`.
@@ -23,7 +24,10 @@ SEED = 2
 RUNS = 12
 
 # A file of so many bytes is the longest that is read ahead.
-AHEAD = 32_768
+AHEAD = 262_144
+
+# The entries of a directory that has so many are looked at together with it.
+FEW = 16
 
 # Only what one of the two writes is compared: the order of files is each program's own.
 LIKE_GREP = """\
@@ -44,6 +48,10 @@ LIKE_GREP = """\
 -Rc b deep sizes linked
 -rb ab sizes
 -rHn b many/f1 deep many
+-rn b small
+-rc --exclude='e3*' b small large
+-rl b large small
+-rc ab large
 """
 
 # Here the programs differ by choice, or one of several faults is told, and so only our own runs are compared.
@@ -73,7 +81,7 @@ def text_of(chance, size):
 
 def make_sizes(chance, folder):
     """Files about the size up to which they are read ahead."""
-    for size in (0, 1, 2, 4_095, 4_096, AHEAD - 1, AHEAD, AHEAD + 1, 65_536, 69_632, 69_633, 200_000):
+    for size in (0, 1, 2, 4_095, 4_096, 32_768, 65_536, 69_632, 69_633, AHEAD - 1, AHEAD, AHEAD + 1):
         (folder / f"s{size}").write_bytes(text_of(chance, size))
 
 
@@ -97,6 +105,26 @@ def make_deep(chance, folder):
         folder.mkdir()
 
 
+def make_small(chance, folder):
+    """Directories of no entry up to one more than are looked at together, some with such a directory in them."""
+    for number in range(2 * FEW + 4):
+        below = folder / f"d{number}"
+        below.mkdir()
+        for entry in range(number % (FEW + 2)):
+            (below / f"e{entry}").write_bytes(text_of(chance, 200))
+        for name in ("e2-below", "z")[: number % 3]:
+            (below / name / "last").mkdir(parents=True)
+            (below / name / "f").write_bytes(text_of(chance, 100))
+            (below / name / "last" / "f").write_bytes(text_of(chance, 100))
+
+
+def make_large(chance, folder):
+    """More bytes than are held at once, in files that are read ahead."""
+    text = text_of(chance, 250_000)
+    for number in range(48):
+        (folder / f"f{number}").write_bytes(text)
+
+
 def make_others(chance, folder):
     """What is not read: links, a FIFO, and what a name can't be told of."""
     (folder / "linked").mkdir()
@@ -116,7 +144,8 @@ def make(folder):
     (folder / "bad" / os.fsdecode(b"\xff")).write_bytes(text_of(chance, 500))
     folder = folder / "all"
     folder.mkdir()
-    for name, entries in (("sizes", make_sizes), ("many", make_many), ("deep", make_deep)):
+    kinds = {"sizes": make_sizes, "many": make_many, "deep": make_deep, "small": make_small, "large": make_large}
+    for name, entries in kinds.items():
         (folder / name).mkdir()
         entries(chance, folder / name)
     make_others(chance, folder)

@@ -1,7 +1,8 @@
 //! A directory whose entries are looked at before their turn comes.
 
-use crate::found::Found;
-use pg_walk::{Scope, entry_path};
+use crate::found::{Found, Lookahead};
+use crate::shared::Shared;
+use pg_walk::entry_path;
 use std::alloc::{AllocError, Global};
 use std::rt::Files;
 use std::sync::atomic::{AtomicUsize, Ordering};
@@ -22,14 +23,14 @@ pub(crate) enum Prefetch {
     /// Nothing is there yet, or its slot doesn't hold the entry.
     Pending,
     /// What the thread has found out, if that could be told.
-    Done(Option<Found>),
+    Done(Option<Lookahead>),
 }
 
 /// Room for what was found out about an entry.
 struct Slot {
     /// One more than the entry that it holds, or 0.
     holds: AtomicUsize,
-    found: Mutex<Option<Found>>,
+    found: Mutex<Option<Lookahead>>,
 }
 
 impl Drop for Slot {
@@ -46,7 +47,19 @@ impl Slot {
         }
     }
 
-    fn put<R: Wait>(&self, rt: &R, entry: usize, found: Option<Found>) {
+    /// A slot that holds what was found out about an entry.
+    fn with(alloc: Global, entry: usize, found: Option<Found>) -> Slot {
+        let found = found.map(|entry| Lookahead {
+            entry,
+            below: Vec::new(alloc),
+        });
+        Slot {
+            holds: AtomicUsize::new(entry.saturating_add(1)),
+            found: Mutex::new(found),
+        }
+    }
+
+    fn put<R: Wait>(&self, rt: &R, entry: usize, found: Option<Lookahead>) {
         let mut guard = self.found.lock(rt);
         *guard = found;
         self.holds.store(entry.saturating_add(1), Ordering::SeqCst);
@@ -93,15 +106,22 @@ impl Drop for Directory {
 }
 
 impl Directory {
-    /// A directory with these entries, of which at most so many are looked at ahead, and none was yet.
+    /// A directory with these entries, of which at most so many are looked at ahead. What was found out about the
+    /// first ones is given.
     pub(crate) fn new(
         alloc: Global,
         path: &str,
         names: Vec<String>,
         window: usize,
+        found: Vec<Option<Found>>,
     ) -> Result<Directory, AllocError> {
+        let count = names.len().min(window);
         let mut slots = Vec::new(alloc);
-        for _ in 0..names.len().min(window) {
+        for (entry, found) in found.into_iter().take(count).enumerate() {
+            slots.push(Slot::with(alloc, entry, found))?;
+        }
+        let known = slots.len();
+        for _ in known..count {
             slots.push(Slot::new())?;
         }
         Ok(Directory {
@@ -109,9 +129,14 @@ impl Directory {
             names,
             turn: AtomicUsize::new(0),
             between: [0; LINE],
-            next: AtomicUsize::new(0),
+            next: AtomicUsize::new(known),
             slots,
         })
+    }
+
+    /// Whether each entry was looked at, or is by some thread.
+    pub(crate) fn is_claimed(&self) -> bool {
+        self.next.load(Ordering::SeqCst) >= self.names.len()
     }
 
     /// The entry whose turn it is.
@@ -156,8 +181,11 @@ impl Directory {
             .is_ok()
     }
 
-    /// The next entry that may be looked at, if there is one.
-    fn next_entry(&self) -> Option<usize> {
+    /// The next entry that may be looked at, if there is one and not too much is held.
+    fn next_entry(&self, shared: &Shared) -> Option<usize> {
+        if shared.budget.is_spent() {
+            return None;
+        }
         let next = self.next.load(Ordering::SeqCst);
         let end = self.turn().saturating_add(self.slots.len());
         if next < self.names.len().min(end) {
@@ -172,28 +200,28 @@ impl Directory {
         &self,
         rt: R,
         alloc: Global,
-        scope: &Scope,
+        shared: &Shared,
     ) -> bool {
-        let Some(entry) = self.next_entry() else {
+        let Some(entry) = self.next_entry(shared) else {
             return false;
         };
         if self.claim(entry) {
-            let found = self.look_at(rt, alloc, scope, entry);
+            let found = self.look_at(rt, alloc, shared, entry);
             self.put(&rt, entry, found);
         }
         true
     }
 
-    fn look_at<R: Files + Drop>(
+    fn look_at<R: Files + Copy + Drop>(
         &self,
         rt: R,
         alloc: Global,
-        scope: &Scope,
+        shared: &Shared,
         entry: usize,
-    ) -> Option<Found> {
+    ) -> Option<Lookahead> {
         let name = self.names.get(entry)?;
         let path = entry_path(alloc, self.path.as_str(), name.as_str()).ok()?;
-        Found::at(rt, alloc, scope, path)
+        Lookahead::at(rt, alloc, shared, path)
     }
 
     fn slot(&self, entry: usize) -> Option<&Slot> {
@@ -202,7 +230,7 @@ impl Directory {
     }
 
     /// Keeps what was found out about an entry, unless its turn is over.
-    fn put<R: Wait>(&self, rt: &R, entry: usize, found: Option<Found>) {
+    fn put<R: Wait>(&self, rt: &R, entry: usize, found: Option<Lookahead>) {
         if entry < self.turn() {
             return;
         }

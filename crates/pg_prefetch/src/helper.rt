@@ -32,7 +32,7 @@ impl<R: Files + Wait + Copy + Drop> PrefetchHelper<R> {
     /// Looks at the next entry of a directory. The answer is whether there was one.
     fn look_into(&self, directory: Option<&Directory>) -> bool {
         match directory {
-            Some(directory) => directory.prefetch_next(self.rt, self.alloc, &self.shared.scope),
+            Some(directory) => directory.prefetch_next(self.rt, self.alloc, &self.shared),
             None => false,
         }
     }

@@ -1,21 +1,23 @@
 //! What the thread that asks knows of the entries that are looked at ahead.
 ghost use Rattle.std.specs.Prelude.{◌≡◌, IfSome};
 
+use crate::budget::Budget;
 use crate::directory::{Directory, Prefetch, WINDOW};
-use crate::found::Found;
+use crate::found::{Found, Lookahead};
 use crate::helper::PrefetchHelper;
 use crate::shared::Shared;
 use pg_files::WholeFile;
 use pg_walk::{FileKind, Listing, Scope};
 use std::alloc::{AllocError, Global};
+use std::mem;
 use std::rt::Files;
 use std::sync::{Arc, Wait};
 
 /// Entries further down are not looked at ahead, for each level holds up to a window of files.
 const DEEPEST: usize = 16;
 
-/// How often it is asked whether another thread is done with an entry, which takes some 10 microseconds.
-const MAX_POLLS: u32 = 10_000;
+/// How often it is asked whether another thread is done with an entry, which takes some 40 microseconds.
+const MAX_POLLS: u32 = 40_000;
 
 /// For a directory of no fewer entries all threads wake.
 const WORTH_WAKING_ALL: usize = 32;
@@ -27,8 +29,12 @@ pub(crate) struct Prefetcher {
     shared: Option<Arc<Shared>>,
     /// From the operand down.
     directories: Vec<Arc<Directory>>,
+    /// How many of these there are down to the one whose entries other threads look at.
+    helped: usize,
     /// What was found out about the last entry that was asked for, until it is used.
     found: Option<Found>,
+    /// What was found out about the entries of that entry.
+    below: Vec<Option<Found>>,
 }
 
 impl Drop for Prefetcher {
@@ -37,7 +43,9 @@ impl Drop for Prefetcher {
             alloc: _,
             shared: _,
             directories: _,
+            helped: _,
             found: _,
+            below: _,
         } = self;
     }
 }
@@ -49,14 +57,20 @@ impl Prefetcher {
             alloc,
             shared: None,
             directories: Vec::new(alloc),
+            helped: 0,
             found: None,
+            below: Vec::new(alloc),
         }
     }
 
     /// A walk follows that is asked for this.
     pub(crate) fn expect(&mut self, scope: Scope) {
         self.directories = Vec::new(self.alloc);
-        self.shared = Arc::new(self.alloc, Shared::new(scope)).ok();
+        self.helped = 0;
+        self.shared = match Budget::new(self.alloc) {
+            Ok(budget) => Arc::new(self.alloc, Shared::new(scope, budget)).ok(),
+            Err(_) => None,
+        };
     }
 
     /// Whether a walk is expected.
@@ -73,7 +87,8 @@ impl Prefetcher {
         Some(PrefetchHelper::new(rt, self.alloc, shared))
     }
 
-    /// The entries of a directory, in the order in which they will be asked for, are looked at from now on.
+    /// The entries of a directory, in the order in which they will be asked for, are looked at from now on, but for the
+    /// first ones, of which it is given what was found out. Where that are all, other threads go on where they are.
     ///
     /// # Errors
     ///
@@ -83,6 +98,7 @@ impl Prefetcher {
         rt: &R,
         path: &str,
         names: Vec<String>,
+        found: Vec<Option<Found>>,
     ) -> Result<(), AllocError> {
         let Some(shared) = &self.shared else {
             return Ok(());
@@ -93,8 +109,13 @@ impl Prefetcher {
             0
         };
         let is_large = names.len() >= WORTH_WAKING_ALL;
-        let directory = Arc::new(self.alloc, Directory::new(self.alloc, path, names, window)?)?;
+        let directory = Directory::new(self.alloc, path, names, window, found)?;
+        let directory = Arc::new(self.alloc, directory)?;
         self.directories.push(Arc::try_clone(&directory)?)?;
+        if directory.is_claimed() {
+            return Ok(());
+        }
+        self.helped = self.directories.len();
         let is_worth_waking = directory.is_worth_waking();
         shared.look_into(rt, Some(directory));
         if is_worth_waking {
@@ -105,15 +126,14 @@ impl Prefetcher {
 
     /// Leaves the directories whose entries all had their turn.
     fn leave<R: Wait>(&mut self, rt: &R) {
-        let mut left = false;
         for _ in 0..self.directories.len() {
             if !self.directories.last().is_some_and(|it| it.is_over()) {
                 break;
             }
             self.directories.pop();
-            left = true;
         }
-        if left {
+        if self.directories.len() < self.helped {
+            self.helped = self.directories.len();
             self.look_into_last(rt);
         }
     }
@@ -133,6 +153,7 @@ impl Prefetcher {
     pub(crate) fn find<R: Wait>(&mut self, rt: &R, path: &str, follow: bool) -> Option<FileKind> {
         self.leave(rt);
         self.found = None;
+        self.below = Vec::new(self.alloc);
         let directory = self.directories.last()?;
         let entry = directory.turn();
         if !directory.is_path_of(entry, path) {
@@ -140,15 +161,22 @@ impl Prefetcher {
         }
         let found = wait_for(rt, directory, entry);
         directory.go_on();
-        if directory.is_worth_waking() {
-            if let Some(shared) = &self.shared {
+        self.wake();
+        let Lookahead { entry, below } = found?;
+        let kind = entry.kind(path, follow);
+        self.found = Some(entry);
+        self.below = below;
+        kind
+    }
+
+    /// Wakes a sleeping thread, if there is enough to look at for it.
+    fn wake(&self) {
+        let helped = self.directories.get(self.helped.saturating_sub(1));
+        if let (Some(shared), Some(directory)) = (&self.shared, helped) {
+            if directory.is_worth_waking() && !shared.budget.is_half_spent() {
                 shared.wake(false);
             }
         }
-        let found = found?;
-        let kind = found.kind(path, follow);
-        self.found = Some(found);
-        kind
     }
 
     /// The file at a path, if it was the last that was asked for and was read ahead.
@@ -158,15 +186,18 @@ impl Prefetcher {
         self.found.take()?.into_file(path)
     }
 
-    /// What the directory at a path holds, if it was the last that was asked for and was listed ahead.
-    pub(crate) fn take_listing(&mut self, path: &str) -> Option<Listing> {
-        self.found.take()?.into_listing(path)
+    /// What the directory at a path holds, if it was the last that was asked for and was listed ahead; and what was
+    /// found out about its first entries.
+    pub(crate) fn take_listing(&mut self, path: &str) -> Option<(Listing, Vec<Option<Found>>)> {
+        let listing = self.found.take()?.into_listing(path)?;
+        let below = mem::replace(&mut self.below, Vec::new(self.alloc));
+        Some((listing, below))
     }
 }
 
 /// What another thread has found out about an entry whose turn has come. It is waited for only as long as that thread
 /// is at it, and not for long.
-fn wait_for<R: Wait>(rt: &R, directory: &Directory, entry: usize) -> Option<Found> {
+fn wait_for<R: Wait>(rt: &R, directory: &Directory, entry: usize) -> Option<Lookahead> {
     if directory.claim(entry) {
         return None;
     }

@@ -1,5 +1,6 @@
 //! What the threads that look ahead share with the one that asks.
 
+use crate::budget::Budget;
 use crate::directory::Directory;
 use pg_walk::Scope;
 use std::alloc::Global;
@@ -10,6 +11,8 @@ use std::sync::{Arc, Mutex, Wait};
 pub(crate) struct Shared {
     /// What the walk is asked for.
     pub(crate) scope: Scope,
+    /// How much is held of what was found out.
+    pub(crate) budget: Budget,
     /// The directory whose entries are looked at.
     directory: Mutex<Option<Arc<Directory>>>,
     /// It changes with the directory, and when a sleeping thread is to look again.
@@ -22,6 +25,7 @@ impl Drop for Shared {
     fn drop(self) {
         let Shared {
             scope: _,
+            budget: _,
             directory: _,
             signal: _,
             asleep: _,
@@ -31,9 +35,10 @@ impl Drop for Shared {
 
 impl Shared {
     /// For a walk that is asked for this. There is nothing to look at yet.
-    pub(crate) fn new(scope: Scope) -> Shared {
+    pub(crate) fn new(scope: Scope, budget: Budget) -> Shared {
         Shared {
             scope,
+            budget,
             directory: Mutex::new(None),
             signal: AtomicU64::new(0),
             asleep: AtomicU64::new(0),

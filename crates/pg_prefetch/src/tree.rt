@@ -11,7 +11,8 @@ use std::rt::Files;
 use std::sync::{Mutex, Wait};
 
 /// The system's files and directories, as a [`DiskTree`] has them. Where a walk is expected, threads look ahead at the
-/// entries of the directory that was listed last: up to 64 from the one whose turn it is on.
+/// entries of the directory that was listed last: up to 64 from the one whose turn it is on, and those of small
+/// directories among these.
 pub struct PrefetchTree<R: Files + Drop> {
     rt: R,
     disk: DiskTree<R>,
@@ -72,13 +73,16 @@ impl<R: Files + Wait + Copy + Drop> FileTree for PrefetchTree<R> {
             Some(prefetcher) if prefetcher.expects_walk() => prefetcher,
             _ => return self.disk.entries(alloc, path),
         };
-        let listing = match prefetcher.take_listing(path) {
-            Some(listing) => listing,
-            None => list(&self.disk, prefetcher.alloc, path)?,
+        let (listing, below) = match prefetcher.take_listing(path) {
+            Some(taken) => taken,
+            None => {
+                let listing = list(&self.disk, prefetcher.alloc, path)?;
+                (listing, Vec::new(prefetcher.alloc))
+            }
         };
         let copy = listing.copy(alloc)?;
         // Without memory for it nothing is looked at ahead.
-        let _ = prefetcher.enter(&self.rt, path, listing.names);
+        let _ = prefetcher.enter(&self.rt, path, listing.names, below);
         Ok(copy)
     }
 
