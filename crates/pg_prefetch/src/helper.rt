@@ -29,21 +29,25 @@ impl<R: Files + Wait + Copy + Drop> PrefetchHelper<R> {
         PrefetchHelper { rt, alloc, shared }
     }
 
-    /// Looks at the next entry of a directory. The answer is whether there was one.
-    fn look_into(&self, directory: Option<&Directory>) -> bool {
-        match directory {
-            Some(directory) => directory.prefetch_next(self.rt, self.alloc, &self.shared),
-            None => false,
+    /// Looks at the next entry of the last directory that has one. The answer is whether there was one.
+    fn look_into(&self, directories: &[Arc<Directory>]) -> bool {
+        for directory in directories.iter().rev() {
+            if directory.prefetch_next(self.rt, self.alloc, &self.shared) {
+                return true;
+            }
         }
+        false
     }
 
-    /// Looks at the entries of a directory, until the signal changes from the one that was seen or there is nothing to
+    /// Looks at the entries of directories, until the signal changes from the one that was seen or there is nothing to
     /// look at.
     fn work(&self, seen: u64) {
-        let directory = self.shared.directory(&self.rt);
+        let Ok(directories) = self.shared.directories(&self.rt, self.alloc) else {
+            return;
+        };
         for _ in self.rt.forever() {
             let is_over = self.shared.signal() != seen;
-            if is_over || !self.look_into(directory.as_ref().map(|it| &**it)) {
+            if is_over || !self.look_into(&directories) {
                 return;
             }
         }

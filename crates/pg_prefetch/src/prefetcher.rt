@@ -5,7 +5,7 @@ use crate::budget::Budget;
 use crate::directory::{Directory, Prefetch, WINDOW};
 use crate::found::{Found, Lookahead};
 use crate::helper::PrefetchHelper;
-use crate::shared::Shared;
+use crate::shared::{Shared, copy};
 use pg_files::WholeFile;
 use pg_walk::{FileKind, Listing, Scope};
 use std::alloc::{AllocError, Global};
@@ -29,8 +29,6 @@ pub(crate) struct Prefetcher {
     shared: Option<Arc<Shared>>,
     /// From the operand down.
     directories: Vec<Arc<Directory>>,
-    /// How many of these there are down to the one whose entries other threads look at.
-    helped: usize,
     /// What was found out about the last entry that was asked for, until it is used.
     found: Option<Found>,
     /// What was found out about the entries of that entry.
@@ -43,7 +41,6 @@ impl Drop for Prefetcher {
             alloc: _,
             shared: _,
             directories: _,
-            helped: _,
             found: _,
             below: _,
         } = self;
@@ -57,7 +54,6 @@ impl Prefetcher {
             alloc,
             shared: None,
             directories: Vec::new(alloc),
-            helped: 0,
             found: None,
             below: Vec::new(alloc),
         }
@@ -66,9 +62,8 @@ impl Prefetcher {
     /// A walk follows that is asked for this.
     pub(crate) fn expect(&mut self, scope: Scope) {
         self.directories = Vec::new(self.alloc);
-        self.helped = 0;
         self.shared = match Budget::new(self.alloc) {
-            Ok(budget) => Arc::new(self.alloc, Shared::new(scope, budget)).ok(),
+            Ok(budget) => Arc::new(self.alloc, Shared::new(self.alloc, scope, budget)).ok(),
             Err(_) => None,
         };
     }
@@ -88,7 +83,7 @@ impl Prefetcher {
     }
 
     /// The entries of a directory, in the order in which they will be asked for, are looked at from now on, but for the
-    /// first ones, of which it is given what was found out. Where that are all, other threads go on where they are.
+    /// first ones, of which it is given what was found out.
     ///
     /// # Errors
     ///
@@ -110,14 +105,12 @@ impl Prefetcher {
         };
         let is_large = names.len() >= WORTH_WAKING_ALL;
         let directory = Directory::new(self.alloc, path, names, window, found)?;
-        let directory = Arc::new(self.alloc, directory)?;
-        self.directories.push(Arc::try_clone(&directory)?)?;
-        if directory.is_claimed() {
-            return Ok(());
-        }
-        self.helped = self.directories.len();
+        let is_claimed = directory.is_claimed();
         let is_worth_waking = directory.is_worth_waking();
-        shared.look_into(rt, Some(directory));
+        self.directories.push(Arc::new(self.alloc, directory)?)?;
+        if !is_claimed {
+            shared.look_into(rt, copy(self.alloc, &self.directories)?);
+        }
         if is_worth_waking {
             shared.wake(is_large);
         }
@@ -125,33 +118,19 @@ impl Prefetcher {
     }
 
     /// Leaves the directories whose entries all had their turn.
-    fn leave<R: Wait>(&mut self, rt: &R) {
+    fn leave(&mut self) {
         for _ in 0..self.directories.len() {
             if !self.directories.last().is_some_and(|it| it.is_over()) {
-                break;
+                return;
             }
             self.directories.pop();
-        }
-        if self.directories.len() < self.helped {
-            self.helped = self.directories.len();
-            self.look_into_last(rt);
-        }
-    }
-
-    fn look_into_last<R: Wait>(&self, rt: &R) {
-        if let Some(shared) = &self.shared {
-            let directory = self
-                .directories
-                .last()
-                .and_then(|it| Arc::try_clone(it).ok());
-            shared.look_into(rt, directory);
         }
     }
 
     /// What stands at a path, where a link is followed or not, if it is an entry that was looked at ahead so. What was
     /// read of it is kept.
     pub(crate) fn find<R: Wait>(&mut self, rt: &R, path: &str, follow: bool) -> Option<FileKind> {
-        self.leave(rt);
+        self.leave();
         self.found = None;
         self.below = Vec::new(self.alloc);
         let directory = self.directories.last()?;
@@ -171,12 +150,17 @@ impl Prefetcher {
 
     /// Wakes a sleeping thread, if there is enough to look at for it.
     fn wake(&self) {
-        let helped = self.directories.get(self.helped.saturating_sub(1));
-        if let (Some(shared), Some(directory)) = (&self.shared, helped) {
-            if directory.is_worth_waking() && !shared.budget.is_half_spent() {
-                shared.wake(false);
-            }
+        let Some(shared) = &self.shared else {
+            return;
+        };
+        if shared.has_sleepers() && !shared.budget.is_half_spent() && self.is_worth_waking() {
+            shared.wake(false);
         }
+    }
+
+    /// Whether some directory has enough entries that nobody has looked at.
+    fn is_worth_waking(&self) -> bool {
+        self.directories.iter().any(|it| it.is_worth_waking())
     }
 
     /// The file at a path, if it was the last that was asked for and was read ahead.
