@@ -1,9 +1,9 @@
 //! A directory whose entries are looked at before their turn comes.
 
-use crate::found::{Found, Lookahead};
+use crate::found::Found;
 use crate::shared::Shared;
-use pg_walk::entry_path;
-use std::alloc::{AllocError, Global};
+use pg_walk::{Listing, entry_path};
+use std::alloc::{AllocError, Allocator, Global};
 use std::rt::Files;
 use std::sync::atomic::{AtomicUsize, Ordering};
 use std::sync::{Mutex, Wait};
@@ -14,6 +14,9 @@ pub(crate) const WINDOW: usize = 64;
 /// A thread wakes for no fewer entries.
 const WORTH_WAKING: usize = 8;
 
+/// For a directory of no fewer entries all threads wake.
+const WORTH_WAKING_ALL: usize = 32;
+
 /// How many bytes between what different threads write keep them from sharing a line of the processor's cache.
 const LINE: usize = 64;
 
@@ -23,14 +26,14 @@ pub(crate) enum Prefetch {
     /// Nothing is there yet, or its slot doesn't hold the entry.
     Pending,
     /// What the thread has found out, if that could be told.
-    Done(Option<Lookahead>),
+    Done(Option<Found>),
 }
 
 /// Room for what was found out about an entry.
 struct Slot {
     /// One more than the entry that it holds, or 0.
     holds: AtomicUsize,
-    found: Mutex<Option<Lookahead>>,
+    found: Mutex<Option<Found>>,
 }
 
 impl Drop for Slot {
@@ -47,19 +50,7 @@ impl Slot {
         }
     }
 
-    /// A slot that holds what was found out about an entry.
-    fn with(alloc: Global, entry: usize, found: Option<Found>) -> Slot {
-        let found = found.map(|entry| Lookahead {
-            entry,
-            below: Vec::new(alloc),
-        });
-        Slot {
-            holds: AtomicUsize::new(entry.saturating_add(1)),
-            found: Mutex::new(found),
-        }
-    }
-
-    fn put<R: Wait>(&self, rt: &R, entry: usize, found: Option<Lookahead>) {
+    fn put<R: Wait>(&self, rt: &R, entry: usize, found: Option<Found>) {
         let mut guard = self.found.lock(rt);
         *guard = found;
         self.holds.store(entry.saturating_add(1), Ordering::SeqCst);
@@ -79,10 +70,10 @@ impl Slot {
     }
 }
 
-/// A directory that a walk is inside of, with its entries in the order in which they are asked for.
+/// A directory that a walk is inside of or will come to, with its entries in the order in which they are asked for.
 pub(crate) struct Directory {
     path: String,
-    names: Vec<String>,
+    listing: Listing,
     /// The entry whose turn it is.
     turn: AtomicUsize,
     between: [u8; LINE],
@@ -96,7 +87,7 @@ impl Drop for Directory {
     fn drop(self) {
         let Directory {
             path: _,
-            names: _,
+            listing: _,
             turn: _,
             between: _,
             next: _,
@@ -106,37 +97,43 @@ impl Drop for Directory {
 }
 
 impl Directory {
-    /// A directory with these entries, of which at most so many are looked at ahead. What was found out about the
-    /// first ones is given.
+    /// A directory with these entries. None was looked at yet.
     pub(crate) fn new(
         alloc: Global,
         path: &str,
-        names: Vec<String>,
-        window: usize,
-        found: Vec<Option<Found>>,
+        listing: Listing,
     ) -> Result<Directory, AllocError> {
-        let count = names.len().min(window);
         let mut slots = Vec::new(alloc);
-        for (entry, found) in found.into_iter().take(count).enumerate() {
-            slots.push(Slot::with(alloc, entry, found))?;
-        }
-        let known = slots.len();
-        for _ in known..count {
+        for _ in 0..listing.names.len().min(WINDOW) {
             slots.push(Slot::new())?;
         }
         Ok(Directory {
             path: String::from_str(alloc, path)?,
-            names,
+            listing,
             turn: AtomicUsize::new(0),
             between: [0; LINE],
-            next: AtomicUsize::new(known),
+            next: AtomicUsize::new(0),
             slots,
         })
     }
 
-    /// Whether each entry was looked at, or is by some thread.
-    pub(crate) fn is_claimed(&self) -> bool {
-        self.next.load(Ordering::SeqCst) >= self.names.len()
+    /// Where it stands.
+    pub(crate) fn path(&self) -> &str {
+        self.path.as_str()
+    }
+
+    /// A copy of what it holds.
+    ///
+    /// # Errors
+    ///
+    /// `AllocError` where a request for memory was refused.
+    pub(crate) fn listing<A: Allocator + Copy>(&self, alloc: A) -> Result<Listing<A>, AllocError> {
+        self.listing.copy(alloc)
+    }
+
+    /// Whether it has so many entries that threads are worth waking for them.
+    pub(crate) fn is_large(&self) -> bool {
+        self.listing.names.len() >= WORTH_WAKING_ALL
     }
 
     /// The entry whose turn it is.
@@ -146,12 +143,12 @@ impl Directory {
 
     /// Whether all entries had their turn.
     pub(crate) fn is_over(&self) -> bool {
-        self.turn() >= self.names.len()
+        self.turn() >= self.listing.names.len()
     }
 
     /// Whether this is the path of an entry.
     pub(crate) fn is_path_of(&self, entry: usize, path: &str) -> bool {
-        let Some(name) = self.names.get(entry) else {
+        let Some(name) = self.listing.names.get(entry) else {
             return false;
         };
         let Some(below) = path.as_bytes().strip_prefix(self.path.as_bytes()) else {
@@ -169,7 +166,7 @@ impl Directory {
     /// left that it wakes in time.
     pub(crate) fn is_worth_waking(&self) -> bool {
         let next = self.next.load(Ordering::SeqCst);
-        let has_time = next.saturating_add(WORTH_WAKING) <= self.names.len();
+        let has_time = next.saturating_add(WORTH_WAKING) <= self.listing.names.len();
         has_time && next < self.turn().saturating_add(self.slots.len() / 2)
     }
 
@@ -181,35 +178,39 @@ impl Directory {
             .is_ok()
     }
 
-    /// The next entry that may be looked at, if there is one and not too much is held.
-    fn next_entry(&self, shared: &Shared) -> Option<usize> {
-        if shared.budget.is_spent() {
-            return None;
-        }
+    /// The next entry that may be looked at, if there is one.
+    fn next_entry(&self) -> Option<usize> {
         let next = self.next.load(Ordering::SeqCst);
         let end = self.turn().saturating_add(self.slots.len());
-        if next < self.names.len().min(end) {
+        if next < self.listing.names.len().min(end) {
             Some(next)
         } else {
             None
         }
     }
 
-    /// Looks at the next entry that may be looked at. The answer is whether there was one.
+    /// Whether some entry may be looked at.
+    pub(crate) fn has_next(&self) -> bool {
+        self.next_entry().is_some()
+    }
+
+    /// Looks at the next entry that may be looked at, if there is one.
     pub(crate) fn prefetch_next<R: Files + Wait + Copy + Drop>(
         &self,
         rt: R,
         alloc: Global,
         shared: &Shared,
-    ) -> bool {
-        let Some(entry) = self.next_entry(shared) else {
-            return false;
+    ) {
+        let Some(entry) = self.next_entry() else {
+            return;
         };
         if self.claim(entry) {
             let found = self.look_at(rt, alloc, shared, entry);
+            if let Some(found) = &found {
+                found.list_ahead(rt, alloc, shared);
+            }
             self.put(&rt, entry, found);
         }
-        true
     }
 
     fn look_at<R: Files + Copy + Drop>(
@@ -218,10 +219,10 @@ impl Directory {
         alloc: Global,
         shared: &Shared,
         entry: usize,
-    ) -> Option<Lookahead> {
-        let name = self.names.get(entry)?;
+    ) -> Option<Found> {
+        let name = self.listing.names.get(entry)?;
         let path = entry_path(alloc, self.path.as_str(), name.as_str()).ok()?;
-        Lookahead::at(rt, alloc, shared, path)
+        Found::at(rt, alloc, shared, path)
     }
 
     fn slot(&self, entry: usize) -> Option<&Slot> {
@@ -230,7 +231,7 @@ impl Directory {
     }
 
     /// Keeps what was found out about an entry, unless its turn is over.
-    fn put<R: Wait>(&self, rt: &R, entry: usize, found: Option<Lookahead>) {
+    fn put<R: Wait>(&self, rt: &R, entry: usize, found: Option<Found>) {
         if entry < self.turn() {
             return;
         }

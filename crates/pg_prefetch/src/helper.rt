@@ -1,6 +1,5 @@
 //! What a thread does that looks ahead.
 
-use crate::directory::Directory;
 use crate::shared::Shared;
 use pg_walk::Helper;
 use std::alloc::Global;
@@ -29,27 +28,13 @@ impl<R: Files + Wait + Copy + Drop> PrefetchHelper<R> {
         PrefetchHelper { rt, alloc, shared }
     }
 
-    /// Looks at the next entry of the last directory that has one. The answer is whether there was one.
-    fn look_into(&self, directories: &[Arc<Directory>]) -> bool {
-        for directory in directories.iter().rev() {
-            if directory.prefetch_next(self.rt, self.alloc, &self.shared) {
-                return true;
-            }
-        }
-        false
-    }
-
-    /// Looks at the entries of directories, until the signal changes from the one that was seen or there is nothing to
-    /// look at.
-    fn work(&self, seen: u64) {
-        let Ok(directories) = self.shared.directories(&self.rt, self.alloc) else {
-            return;
-        };
+    /// Looks at one entry after another, as long as there is one that may be looked at.
+    fn work(&self) {
         for _ in self.rt.forever() {
-            let is_over = self.shared.signal() != seen;
-            if is_over || !self.look_into(&directories) {
+            let Some(directory) = self.shared.next_directory(&self.rt) else {
                 return;
-            }
+            };
+            directory.prefetch_next(self.rt, self.alloc, &self.shared);
         }
     }
 }
@@ -58,7 +43,7 @@ impl<R: Files + Wait + Copy + Drop> Helper for PrefetchHelper<R> {
     fn help(self) {
         for _ in self.rt.forever() {
             let seen = self.shared.signal();
-            self.work(seen);
+            self.work();
             self.shared.sleep(&self.rt, seen);
         }
     }

@@ -3,25 +3,12 @@
 use crate::budget::Budget;
 use crate::directory::Directory;
 use pg_walk::Scope;
-use std::alloc::{AllocError, Global};
+use std::alloc::Global;
 use std::sync::atomic::{AtomicU64, Ordering};
 use std::sync::{Arc, Mutex, Wait};
 
-/// The same directories once more.
-///
-/// # Errors
-///
-/// `AllocError` where a request for memory was refused.
-pub(crate) fn copy(
-    alloc: Global,
-    directories: &[Arc<Directory>],
-) -> Result<Vec<Arc<Directory>>, AllocError> {
-    let mut copy = Vec::new(alloc);
-    for directory in directories {
-        copy.push(Arc::try_clone(directory)?)?;
-    }
-    Ok(copy)
-}
+/// So many directories at most are listed before the walk comes to them.
+const MOST_AHEAD: usize = 64;
 
 /// What the threads that look ahead share with the one that asks.
 pub(crate) struct Shared {
@@ -29,9 +16,11 @@ pub(crate) struct Shared {
     pub(crate) scope: Scope,
     /// How much is held of what was found out.
     pub(crate) budget: Budget,
-    /// The directories whose entries are looked at, from the operand down.
-    directories: Mutex<Vec<Arc<Directory>>>,
-    /// It changes with the directories, and when a sleeping thread is to look again.
+    /// The directories that the walk is inside of, from the operand down.
+    inside: Mutex<Vec<Arc<Directory>>>,
+    /// Directories that the walk will come to, the next one last.
+    ahead: Mutex<Vec<Arc<Directory>>>,
+    /// It changes when a sleeping thread is to look again.
     signal: AtomicU64,
     /// How many threads sleep, or are about to.
     asleep: AtomicU64,
@@ -42,11 +31,47 @@ impl Drop for Shared {
         let Shared {
             scope: _,
             budget: _,
-            directories: _,
+            inside: _,
+            ahead: _,
             signal: _,
             asleep: _,
         } = self;
     }
+}
+
+/// A byte's place in the order of a walk, in which what lies in a directory comes before names that go on.
+fn rank(byte: u8) -> u16 {
+    if byte == b'/' { 0 } else { u16::from(byte) + 1 }
+}
+
+/// Whether a walk comes to one path before another.
+fn comes_before(one: &str, other: &str) -> bool {
+    for (byte, beside) in one.as_bytes().iter().zip(other.as_bytes().iter()) {
+        if byte != beside {
+            return rank(*byte) < rank(*beside);
+        }
+    }
+    one.len() < other.len()
+}
+
+/// Where the first of some directories stands that a walk comes to before a path; their number, if there is none.
+fn place_behind(directories: &[Arc<Directory>], path: &str) -> usize {
+    for (at, directory) in directories.iter().enumerate() {
+        if comes_before(directory.path(), path) {
+            return at;
+        }
+    }
+    directories.len()
+}
+
+/// The last of some directories of whose entries one may be looked at.
+fn last_open(directories: &[Arc<Directory>]) -> Option<Arc<Directory>> {
+    for directory in directories.iter().rev() {
+        if directory.has_next() {
+            return Arc::try_clone(directory).ok();
+        }
+    }
+    None
 }
 
 impl Shared {
@@ -55,26 +80,108 @@ impl Shared {
         Shared {
             scope,
             budget,
-            directories: Mutex::new(Vec::new(alloc)),
+            inside: Mutex::new(Vec::new(alloc)),
+            ahead: Mutex::new(Vec::new(alloc)),
             signal: AtomicU64::new(0),
             asleep: AtomicU64::new(0),
         }
     }
 
-    /// From now on the entries of these directories are looked at, by the threads that are awake.
-    pub(crate) fn look_into<R: Wait>(&self, rt: &R, directories: Vec<Arc<Directory>>) {
-        *self.directories.lock(rt) = directories;
+    /// The walk goes into a directory. Without memory for it its entries aren't looked at ahead.
+    pub(crate) fn enter<R: Wait>(&self, rt: &R, alloc: Global, directory: Arc<Directory>) {
+        let is_large = directory.is_large();
+        let is_worth_waking = directory.is_worth_waking();
+        let mut inside = self.inside.lock(rt);
+        if inside.is_empty() {
+            *self.ahead.lock(rt) = Vec::new(alloc);
+        }
+        let _ = inside.push(directory);
+        drop(inside);
         self.signal.fetch_add(1, Ordering::SeqCst);
+        if is_worth_waking {
+            self.wake(is_large);
+        }
     }
 
-    /// Whether a thread sleeps.
-    pub(crate) fn has_sleepers(&self) -> bool {
-        self.asleep.load(Ordering::SeqCst) > 0
+    /// The directory whose entry's turn it is. Those are left whose entries all had their turn.
+    pub(crate) fn current<R: Wait>(&self, rt: &R) -> Option<Arc<Directory>> {
+        let mut inside = self.inside.lock(rt);
+        for _ in 0..inside.len() {
+            if !inside.last().is_some_and(|it| it.is_over()) {
+                break;
+            }
+            inside.pop();
+        }
+        Arc::try_clone(inside.last()?).ok()
+    }
+
+    /// Whether one more directory may be listed before the walk comes to it.
+    pub(crate) fn has_room<R: Wait>(&self, rt: &R) -> bool {
+        self.ahead.lock(rt).len() < MOST_AHEAD
+    }
+
+    /// Adds a directory that the walk will come to. Without memory for it its entries aren't looked at ahead.
+    pub(crate) fn add<R: Wait>(&self, rt: &R, alloc: Global, directory: Directory) {
+        let Ok(directory) = Arc::new(alloc, directory) else {
+            return;
+        };
+        let mut ahead = self.ahead.lock(rt);
+        let place = place_behind(&ahead, directory.path()).min(ahead.len());
+        let _ = ahead.insert(place, directory);
+        drop(ahead);
+        self.signal.fetch_add(1, Ordering::SeqCst);
+        self.wake(false);
+    }
+
+    /// The directory at a path, if it was listed before the walk came to it. Those that the walk has passed by are given
+    /// up.
+    pub(crate) fn take<R: Wait>(&self, rt: &R, path: &str) -> Option<Arc<Directory>> {
+        let mut ahead = self.ahead.lock(rt);
+        for _ in 0..ahead.len() {
+            if !ahead.last().is_some_and(|it| comes_before(it.path(), path)) {
+                break;
+            }
+            ahead.pop();
+        }
+        if ahead.last()?.path() == path {
+            ahead.pop()
+        } else {
+            None
+        }
+    }
+
+    /// A directory of whose entries one may be looked at: the one that the walk is in, else the next that it will come
+    /// to, else one further up. There is none where too much is held.
+    pub(crate) fn next_directory<R: Wait>(&self, rt: &R) -> Option<Arc<Directory>> {
+        if self.budget.is_spent() {
+            return None;
+        }
+        let inside = self.inside.lock(rt);
+        if let Some(directory) = inside.last() {
+            if directory.has_next() {
+                return Arc::try_clone(directory).ok();
+            }
+        }
+        match last_open(&self.ahead.lock(rt)) {
+            Some(directory) => Some(directory),
+            None => last_open(&inside),
+        }
+    }
+
+    /// Wakes a sleeping thread, if there is enough to look at for it.
+    pub(crate) fn wake_if_worth<R: Wait>(&self, rt: &R) {
+        if self.asleep.load(Ordering::SeqCst) == 0 || self.budget.is_half_spent() {
+            return;
+        }
+        let is_worth = self.inside.lock(rt).iter().any(|it| it.is_worth_waking());
+        if is_worth {
+            self.wake(false);
+        }
     }
 
     /// Wakes a sleeping thread, or all of them, if there are any.
-    pub(crate) fn wake(&self, all: bool) {
-        if !self.has_sleepers() {
+    fn wake(&self, all: bool) {
+        if self.asleep.load(Ordering::SeqCst) == 0 {
             return;
         }
         self.signal.fetch_add(1, Ordering::SeqCst);
@@ -85,22 +192,9 @@ impl Shared {
         }
     }
 
-    /// What changes with the directories, and when a sleeping thread is to look again.
+    /// What changes when a sleeping thread is to look again.
     pub(crate) fn signal(&self) -> u64 {
         self.signal.load(Ordering::SeqCst)
-    }
-
-    /// The directories whose entries are looked at now.
-    ///
-    /// # Errors
-    ///
-    /// `AllocError` where a request for memory was refused.
-    pub(crate) fn directories<R: Wait>(
-        &self,
-        rt: &R,
-        alloc: Global,
-    ) -> Result<Vec<Arc<Directory>>, AllocError> {
-        copy(alloc, &self.directories.lock(rt))
     }
 
     /// Sleeps until the signal changes from the one that was seen.

@@ -11,8 +11,7 @@ use std::rt::Files;
 use std::sync::{Mutex, Wait};
 
 /// The system's files and directories, as a [`DiskTree`] has them. Where a walk is expected, threads look ahead at the
-/// entries of the directory that was listed last: up to 64 from the one whose turn it is on, and those of small
-/// directories among these.
+/// entries of the directories that it is inside of or will come to: in each up to 64 from the one whose turn it is on.
 pub struct PrefetchTree<R: Files + Drop> {
     rt: R,
     disk: DiskTree<R>,
@@ -69,20 +68,18 @@ impl<R: Files + Wait + Copy + Drop> FileTree for PrefetchTree<R> {
     }
 
     fn entries<A: Allocator + Copy>(&self, alloc: A, path: &str) -> Result<Listing<A>, LookFault> {
-        let mut prefetcher = match self.prefetcher.try_lock() {
+        let prefetcher = match self.prefetcher.try_lock() {
             Some(prefetcher) if prefetcher.expects_walk() => prefetcher,
             _ => return self.disk.entries(alloc, path),
         };
-        let (listing, below) = match prefetcher.take_listing(path) {
-            Some(taken) => taken,
-            None => {
-                let listing = list(&self.disk, prefetcher.alloc, path)?;
-                (listing, Vec::new(prefetcher.alloc))
-            }
-        };
+        if let Some(directory) = prefetcher.take_directory(&self.rt, path) {
+            let copy = directory.listing(alloc)?;
+            prefetcher.enter(&self.rt, directory);
+            return Ok(copy);
+        }
+        let listing = list(&self.disk, prefetcher.alloc, path)?;
         let copy = listing.copy(alloc)?;
-        // Without memory for it nothing is looked at ahead.
-        let _ = prefetcher.enter(&self.rt, path, listing.names, below);
+        prefetcher.enter_listed(&self.rt, path, listing);
         Ok(copy)
     }
 
