@@ -3,12 +3,12 @@
 
 In a recursive search other threads look at entries, and open and read files that aren't long, before their turn comes.
 Trees are made that have what may mislead them: many entries and none, files of the size up to which they are read ahead
-and one byte more, more of them than are held at once, small directories whose entries are looked at together with them
-and such with one entry more, directories further down than is looked ahead, links, FIFOs, names that are not UTF-8, and
-the file that the output goes to. Each command line below is run over them by one thread (`--round 1`) and as it stands, RUNS times each,
-and has to give the same bytes, faults and status each time; where GNU grep visits directories in another order, its
-lines are sorted as ours are. A run with helpers has to show other threads, and one of one thread none. The last line is
-`N passed, M failed`.
+and one byte more, more of them than are held at once, directories of few entries within one another, and of names that
+a walk doesn't visit in the order of their paths' bytes, many levels, links, FIFOs, names that are not UTF-8, and the
+file that the output goes to. Each command line below is run over them by one thread (`--round 1`) and as it stands,
+RUNS times each, and has to give the same bytes, faults and status each time; where GNU grep visits directories in
+another order, its lines are sorted as ours are. A run with helpers has to show other threads, and one of one thread
+none. The last line is `N passed, M failed`.
 """
 
 import os
@@ -25,9 +25,6 @@ RUNS = 12
 
 # A file of so many bytes is the longest that is read ahead.
 AHEAD = 262_144
-
-# The entries of a directory that has so many are looked at together with it.
-FEW = 16
 
 # Only what one of the two writes is compared: the order of files is each program's own.
 LIKE_GREP = """\
@@ -106,13 +103,14 @@ def make_deep(chance, folder):
 
 
 def make_small(chance, folder):
-    """Directories of no entry up to one more than are looked at together, some with such a directory in them."""
-    for number in range(2 * FEW + 4):
-        below = folder / f"d{number}"
+    """Directories of few entries within one another. In the order of a walk what lies in `d1` comes before `d1-`, and in
+    that of the bytes of paths behind it."""
+    for number in range(36):
+        below = folder / f"d{number // 3}{('', '-', '.d')[number % 3]}"
         below.mkdir()
-        for entry in range(number % (FEW + 2)):
+        for entry in range(number % 18):
             (below / f"e{entry}").write_bytes(text_of(chance, 200))
-        for name in ("e2-below", "z")[: number % 3]:
+        for name in ("e", "e-", "z")[: number % 4]:
             (below / name / "last").mkdir(parents=True)
             (below / name / "f").write_bytes(text_of(chance, 100))
             (below / name / "last" / "f").write_bytes(text_of(chance, 100))
