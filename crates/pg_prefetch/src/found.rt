@@ -93,9 +93,8 @@ impl Found {
         alloc: Global,
         shared: &Shared,
     ) {
-        let is_visited = self.kind == FileKind::Directory
-            && shared.scope.keeps_entry(self.path.as_str(), self.kind);
-        if !is_visited || !shared.has_room(&rt) {
+        let is_directory = self.kind == FileKind::Directory;
+        if !is_directory || !shared.scope.keeps_entry(self.path.as_str(), self.kind) {
             return;
         }
         let Ok(listing) = list(&DiskTree::new(&rt), alloc, self.path.as_str()) else {

@@ -7,8 +7,8 @@ use std::alloc::Global;
 use std::sync::atomic::{AtomicU64, Ordering};
 use std::sync::{Arc, Mutex, Wait};
 
-/// So many directories at most are listed before the walk comes to them.
-const MOST_AHEAD: usize = 64;
+/// Of so many directories at most it is kept what they hold before the walk comes to them.
+const MOST_AHEAD: usize = 128;
 
 /// What the threads that look ahead share with the one that asks.
 pub(crate) struct Shared {
@@ -115,12 +115,8 @@ impl Shared {
         Arc::try_clone(inside.last()?).ok()
     }
 
-    /// Whether one more directory may be listed before the walk comes to it.
-    pub(crate) fn has_room<R: Wait>(&self, rt: &R) -> bool {
-        self.ahead.lock(rt).len() < MOST_AHEAD
-    }
-
-    /// Adds a directory that the walk will come to. Without memory for it its entries aren't looked at ahead.
+    /// Adds a directory that the walk will come to. If there are too many, the one that it comes to last is given up.
+    /// Without memory for it its entries aren't looked at ahead.
     pub(crate) fn add<R: Wait>(&self, rt: &R, alloc: Global, directory: Directory) {
         let Ok(directory) = Arc::new(alloc, directory) else {
             return;
@@ -128,6 +124,9 @@ impl Shared {
         let mut ahead = self.ahead.lock(rt);
         let place = place_behind(&ahead, directory.path()).min(ahead.len());
         let _ = ahead.insert(place, directory);
+        if ahead.len() > MOST_AHEAD {
+            ahead.remove(0);
+        }
         drop(ahead);
         self.signal.fetch_add(1, Ordering::SeqCst);
         self.wake(false);
