@@ -5,7 +5,7 @@ use std::sync::Arc;
 use std::sync::atomic::{AtomicUsize, Ordering};
 
 /// Once files of so many bytes are held nothing more is looked at ahead.
-const MOST: usize = 8 << 20;
+const MOST: usize = 1 << 20;
 
 /// Counts the bytes of the files that are held.
 pub(crate) struct Budget {
