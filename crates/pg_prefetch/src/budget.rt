@@ -44,7 +44,7 @@ impl Budget {
         self.held.load(Ordering::SeqCst) >= MOST
     }
 
-    /// Whether so little is held that a sleeping thread is worth waking.
+    /// Whether half of that is held, so that no sleeping thread is worth waking.
     pub(crate) fn is_half_spent(&self) -> bool {
         self.held.load(Ordering::SeqCst) >= MOST / 2
     }

@@ -1,4 +1,6 @@
 //! A directory whose entries are looked at before their turn comes.
+ghost use Rattle.std.specs.Prelude.{◌≡◌, IfOk};
+ghost use Rattle.std.specs.String.{string_bytes};
 
 use crate::found::Found;
 use crate::shared::Shared;
@@ -98,11 +100,10 @@ impl Drop for Directory {
 
 impl Directory {
     /// A directory with these entries. None was looked at yet.
-    pub(crate) fn new(
-        alloc: Global,
-        path: &str,
-        listing: Listing,
-    ) -> Result<Directory, AllocError> {
+    pub(crate) fn new(alloc: Global, path: &str, listing: Listing) -> Result<Directory, AllocError>
+        ensures { IfOk result
+            (λ directory. (string_bytes directory.path ≡ path.now) × (directory.listing ≡ listing)) }
+    {
         let mut slots = Vec::new(alloc);
         for _ in 0..listing.names.len().min(WINDOW) {
             slots.push(Slot::new())?;
@@ -118,7 +119,9 @@ impl Directory {
     }
 
     /// Where it stands.
-    pub(crate) fn path(&self) -> &str {
+    pub(crate) fn path(&self) -> &str
+        ensures { result.now ≡ string_bytes self.now.path }
+    {
         self.path.as_str()
     }
 

@@ -1,5 +1,7 @@
 //! What the thread that asks knows of the entries that are looked at ahead.
 ghost use Rattle.std.specs.Prelude.{◌≡◌, IfSome};
+ghost use Rattle.std.specs.Arc.{arc_value};
+ghost use Rattle.std.specs.String.{string_bytes};
 
 use crate::budget::Budget;
 use crate::directory::{Directory, Prefetch};
@@ -8,7 +10,7 @@ use crate::helper::PrefetchHelper;
 use crate::shared::Shared;
 use pg_files::WholeFile;
 use pg_walk::{FileKind, Listing, Scope};
-use std::alloc::Global;
+use std::alloc::{AllocError, Global};
 use std::rt::Files;
 use std::sync::{Arc, Wait};
 
@@ -20,6 +22,8 @@ pub(crate) struct Prefetcher {
     pub(crate) alloc: Global,
     /// What is shared with the threads that look ahead, where a walk is expected.
     shared: Option<Arc<Shared>>,
+    /// The directories that the walk is inside of, from the operand down.
+    inside: Vec<Arc<Directory>>,
     /// What was found out about the last entry that was asked for, until it is used.
     found: Option<Found>,
 }
@@ -29,6 +33,7 @@ impl Drop for Prefetcher {
         let Prefetcher {
             alloc: _,
             shared: _,
+            inside: _,
             found: _,
         } = self;
     }
@@ -40,12 +45,14 @@ impl Prefetcher {
         Prefetcher {
             alloc,
             shared: None,
+            inside: Vec::new(alloc),
             found: None,
         }
     }
 
     /// A walk follows that is asked for this.
     pub(crate) fn expect(&mut self, scope: Scope) {
+        self.inside = Vec::new(self.alloc);
         self.shared = match Budget::new(self.alloc) {
             Ok(budget) => Arc::new(self.alloc, Shared::new(self.alloc, scope, budget)).ok(),
             Err(_) => None,
@@ -67,44 +74,84 @@ impl Prefetcher {
     }
 
     /// The directory at a path, if it was listed ahead.
-    pub(crate) fn take_directory<R: Wait>(&self, rt: &R, path: &str) -> Option<Arc<Directory>> {
+    pub(crate) fn take_directory<R: Wait>(&self, rt: &R, path: &str) -> Option<Arc<Directory>>
+        ensures { IfSome result (λ directory. string_bytes (arc_value directory).path ≡ path.now) }
+    {
         self.shared.as_ref()?.take(rt, path)
     }
 
     /// The walk goes into a directory, and its entries are looked at from now on.
-    pub(crate) fn enter<R: Wait>(&self, rt: &R, directory: Arc<Directory>) {
+    ///
+    /// # Errors
+    ///
+    /// `AllocError` where a request for memory was refused. They aren't looked at then.
+    pub(crate) fn enter<R: Wait>(
+        &mut self,
+        rt: &R,
+        directory: Arc<Directory>,
+    ) -> Result<(), AllocError> {
         if let Some(shared) = &self.shared {
+            self.inside.push(Arc::try_clone(&directory)?)?;
             shared.enter(rt, self.alloc, directory);
         }
+        Ok(())
     }
 
-    /// The same of a directory that wasn't listed ahead. Without memory for it its entries aren't looked at.
-    pub(crate) fn enter_listed<R: Wait>(&self, rt: &R, path: &str, listing: Listing) {
-        let Ok(directory) = Directory::new(self.alloc, path, listing) else {
-            return;
-        };
-        if let Ok(directory) = Arc::new(self.alloc, directory) {
-            self.enter(rt, directory);
+    /// The walk goes into a directory that wasn't listed ahead, and its entries are looked at from now on.
+    ///
+    /// # Errors
+    ///
+    /// `AllocError` where a request for memory was refused. They aren't looked at then.
+    pub(crate) fn enter_listed<R: Wait>(
+        &mut self,
+        rt: &R,
+        path: &str,
+        listing: Listing,
+    ) -> Result<(), AllocError> {
+        let directory = Directory::new(self.alloc, path, listing)?;
+        self.enter(rt, Arc::new(self.alloc, directory)?)
+    }
+
+    /// Leaves the directories whose entries all had their turn.
+    fn leave<R: Wait>(&mut self, rt: &R) {
+        for _ in 0..self.inside.len() {
+            if !self.inside.last().is_some_and(|it| it.is_over()) {
+                return;
+            }
+            self.inside.pop();
+            if let Some(shared) = &self.shared {
+                shared.leave(rt);
+            }
         }
     }
 
     /// What stands at a path, where a link is followed or not, if it is an entry that was looked at ahead so. What was
     /// read of it is kept.
     pub(crate) fn find<R: Wait>(&mut self, rt: &R, path: &str, follow: bool) -> Option<FileKind> {
+        self.leave(rt);
         self.found = None;
-        let shared = self.shared.as_ref()?;
-        let directory = shared.current(rt)?;
+        let directory = self.inside.last()?;
         let entry = directory.turn();
         if !directory.is_path_of(entry, path) {
             return None;
         }
-        let found = wait_for(rt, &directory, entry);
+        let found = wait_for(rt, directory, entry);
         directory.go_on();
-        shared.wake_if_worth(rt);
+        self.wake();
         let found = found?;
         let kind = found.kind(path, follow);
         self.found = Some(found);
         kind
+    }
+
+    /// Wakes a sleeping thread, if there is enough to look at for it.
+    fn wake(&self) {
+        let Some(shared) = &self.shared else {
+            return;
+        };
+        if shared.may_wake() && self.inside.iter().any(|it| it.is_worth_waking()) {
+            shared.wake(false);
+        }
     }
 
     /// The file at a path, if it was the last that was asked for and was read ahead.

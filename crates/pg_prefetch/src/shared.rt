@@ -1,4 +1,7 @@
 //! What the threads that look ahead share with the one that asks.
+ghost use Rattle.std.specs.Prelude.{◌≡◌, IfSome};
+ghost use Rattle.std.specs.Arc.{arc_value};
+ghost use Rattle.std.specs.String.{string_bytes};
 
 use crate::budget::Budget;
 use crate::directory::Directory;
@@ -64,6 +67,11 @@ fn place_behind(directories: &[Arc<Directory>], path: &str) -> usize {
     directories.len()
 }
 
+/// The last of some directories alone.
+fn innermost(directories: &[Arc<Directory>]) -> &[Arc<Directory>] {
+    &directories[directories.len().saturating_sub(1)..]
+}
+
 /// The last of some directories of whose entries one may be looked at.
 fn last_open(directories: &[Arc<Directory>]) -> Option<Arc<Directory>> {
     for directory in directories.iter().rev() {
@@ -103,16 +111,9 @@ impl Shared {
         }
     }
 
-    /// The directory whose entry's turn it is. Those are left whose entries all had their turn.
-    pub(crate) fn current<R: Wait>(&self, rt: &R) -> Option<Arc<Directory>> {
-        let mut inside = self.inside.lock(rt);
-        for _ in 0..inside.len() {
-            if !inside.last().is_some_and(|it| it.is_over()) {
-                break;
-            }
-            inside.pop();
-        }
-        Arc::try_clone(inside.last()?).ok()
+    /// The walk leaves the last directory.
+    pub(crate) fn leave<R: Wait>(&self, rt: &R) {
+        self.inside.lock(rt).pop();
     }
 
     /// Adds a directory that the walk will come to. If there are too many, the one that it comes to last is given up.
@@ -134,7 +135,9 @@ impl Shared {
 
     /// The directory at a path, if it was listed before the walk came to it. Those that the walk has passed by are given
     /// up.
-    pub(crate) fn take<R: Wait>(&self, rt: &R, path: &str) -> Option<Arc<Directory>> {
+    pub(crate) fn take<R: Wait>(&self, rt: &R, path: &str) -> Option<Arc<Directory>>
+        ensures { IfSome result (λ directory. string_bytes (arc_value directory).path ≡ path.now) }
+    {
         let mut ahead = self.ahead.lock(rt);
         for _ in 0..ahead.len() {
             if !ahead.last().is_some_and(|it| comes_before(it.path(), path)) {
@@ -142,11 +145,12 @@ impl Shared {
             }
             ahead.pop();
         }
-        if ahead.last()?.path() == path {
-            ahead.pop()
-        } else {
-            None
+        let directory = ahead.pop()?;
+        if directory.path() == path {
+            return Some(directory);
         }
+        let _ = ahead.push(directory);
+        None
     }
 
     /// A directory of whose entries one may be looked at: the one that the walk is in, else the next that it will come
@@ -155,31 +159,24 @@ impl Shared {
         if self.budget.is_spent() {
             return None;
         }
-        let inside = self.inside.lock(rt);
-        if let Some(directory) = inside.last() {
-            if directory.has_next() {
-                return Arc::try_clone(directory).ok();
-            }
+        let innermost = last_open(innermost(&self.inside.lock(rt)));
+        if innermost.is_some() {
+            return innermost;
         }
-        match last_open(&self.ahead.lock(rt)) {
-            Some(directory) => Some(directory),
-            None => last_open(&inside),
+        let ahead = last_open(&self.ahead.lock(rt));
+        if ahead.is_some() {
+            return ahead;
         }
+        last_open(&self.inside.lock(rt))
     }
 
-    /// Wakes a sleeping thread, if there is enough to look at for it.
-    pub(crate) fn wake_if_worth<R: Wait>(&self, rt: &R) {
-        if self.asleep.load(Ordering::SeqCst) == 0 || self.budget.is_half_spent() {
-            return;
-        }
-        let is_worth = self.inside.lock(rt).iter().any(|it| it.is_worth_waking());
-        if is_worth {
-            self.wake(false);
-        }
+    /// Whether a thread sleeps, and so little is held that it may be woken.
+    pub(crate) fn may_wake(&self) -> bool {
+        self.asleep.load(Ordering::SeqCst) > 0 && !self.budget.is_half_spent()
     }
 
     /// Wakes a sleeping thread, or all of them, if there are any.
-    fn wake(&self, all: bool) {
+    pub(crate) fn wake(&self, all: bool) {
         if self.asleep.load(Ordering::SeqCst) == 0 {
             return;
         }

@@ -68,18 +68,19 @@ impl<R: Files + Wait + Copy + Drop> FileTree for PrefetchTree<R> {
     }
 
     fn entries<A: Allocator + Copy>(&self, alloc: A, path: &str) -> Result<Listing<A>, LookFault> {
-        let prefetcher = match self.prefetcher.try_lock() {
+        let mut prefetcher = match self.prefetcher.try_lock() {
             Some(prefetcher) if prefetcher.expects_walk() => prefetcher,
             _ => return self.disk.entries(alloc, path),
         };
         if let Some(directory) = prefetcher.take_directory(&self.rt, path) {
             let copy = directory.listing(alloc)?;
-            prefetcher.enter(&self.rt, directory);
+            // Without memory for it nothing is looked at ahead.
+            let _ = prefetcher.enter(&self.rt, directory);
             return Ok(copy);
         }
         let listing = list(&self.disk, prefetcher.alloc, path)?;
         let copy = listing.copy(alloc)?;
-        prefetcher.enter_listed(&self.rt, path, listing);
+        let _ = prefetcher.enter_listed(&self.rt, path, listing);
         Ok(copy)
     }
 
