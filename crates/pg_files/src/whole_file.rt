@@ -36,7 +36,8 @@ fn read_whole<A: Allocator + Copy, F: Read>(
     file: &mut F,
     most: usize,
 ) -> Option<Vec<u8, A>>
-    ensures { IfSome result (λ bytes. IfSome (F.remaining file.old) (λ left. left ≡ bytes.items)) }
+    ensures all { IfSome result (λ bytes. IfSome (F.remaining file.old) (λ left. left ≡ bytes.items)) }
+    ensures few { IfSome result (λ bytes. length bytes.items ≤ most) }
 {
     let mut bytes = Vec::new(alloc);
     bytes.resize(most.saturating_add(1), 0).ok()?;
@@ -83,7 +84,8 @@ impl<A: Allocator + Copy> WholeFile<A> {
     /// The file that the system opens for a path, if it is a regular one of at most so many bytes that can be read now,
     /// and there is memory for it.
     pub fn open<R: Files>(rt: &R, alloc: A, path: &str, most: usize) -> Option<WholeFile<A>>
-        ensures { IfSome result (λ file. file.path.items ≡ path.now) }
+        ensures path { IfSome result (λ file. file.path.items ≡ path.now) }
+        ensures few { IfSome result (λ file. length file.bytes.items ≤ most) }
     {
         let mut file = fs::open(rt, path).ok()?;
         let metadata = file.metadata();
