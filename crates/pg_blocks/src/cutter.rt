@@ -407,6 +407,26 @@ impl<A: Allocator + Copy> Cutter<A> {
         Ok(())
     }
 
+    /// Takes the next bytes of the file as `feed` does, and with them their memory: where no byte of the open block came
+    /// yet, they become its beginning, and nothing is copied but what stands behind it.
+    pub fn feed_owned(&mut self, piece: Vec<u8, A>) -> Result<(), CutFault>
+        ensures ok { (past : CutterPast) → IsCutterAfter self.old past
+            → OnOk result (IsCutterAfter self.new (fed past piece.items)) }
+        ensures err { (past : CutterPast) → IsCutterAfter self.old past → OnErr result (IsCutterAfter self.new past) }
+        ensures file { (past : CutterPast) → IsCutterAfter self.old past →
+            IsErrOf result FileTooLong ↔ (2 ^ 62 < length past.bytes + length piece.items) }
+        ensures line { (past : CutterPast) → IsCutterAfter self.old past →
+            IsErrOf result LineTooLong
+            ↔ ((length past.bytes + length piece.items ≤ 2 ^ 62) × HasLongLine (fed past piece.items)) }
+    {
+        if self.filled > 0 {
+            return self.feed(&piece);
+        }
+        let count = piece.len();
+        self.rest = piece;
+        self.fill(count)
+    }
+
     /// The length of the line that is open behind a piece that may come next.
     ///
     /// # Errors

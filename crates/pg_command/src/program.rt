@@ -28,7 +28,7 @@ pub fn command<
     't,
     R: Threads + Wait + Clock + Sync,
     T: Prefetch<Helper: Send + Sync> + Send + Sync,
-    S: Store + Drop,
+    S: Store<Alloc = Global> + Drop,
     W: Sink,
     E: Sink,
 >(
@@ -104,7 +104,7 @@ pub fn run<
     't,
     R: Threads + Wait + Clock + Sync,
     T: Prefetch<Helper: Send + Sync> + Send + Sync,
-    S: Store + Drop,
+    S: Store<Alloc = Global> + Drop,
     W: Write,
     E: Sink,
 >(
@@ -139,7 +139,7 @@ fn run_call<
     't,
     R: Threads + Wait + Clock + Sync,
     T: Prefetch<Helper: Send + Sync> + Send + Sync,
-    S: Store + Drop,
+    S: Store<Alloc = Global> + Drop,
     W: Write,
     E: Sink,
 >(

@@ -48,7 +48,7 @@ pub fn answer<
     't,
     R: Threads + Wait + Clock + Sync,
     T: Prefetch<Helper: Send + Sync> + Send + Sync,
-    S: Store + Drop,
+    S: Store<Alloc = Global> + Drop,
     W: Sink,
     E: Sink,
 >(
@@ -82,7 +82,7 @@ fn search<
     't,
     R: Threads + Wait + Clock + Sync,
     T: Prefetch<Helper: Send + Sync> + Send + Sync,
-    S: Store + Drop,
+    S: Store<Alloc = Global> + Drop,
     W: Sink,
     E: Sink,
 >(

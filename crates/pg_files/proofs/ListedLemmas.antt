@@ -1,6 +1,6 @@
 -- The items of a walk as files that are given.
 use Rattle.std.proofs.Common.{◌≡◌, ℕ, zero, suc, Bool, true, false, List, [], ◌∷◌, length, map, take, drop}
-use Rattle.std.proofs.Common.{reverse, Result, Ok, Err, refl, sym, ap, subst, ◌∙◌, arith, inl}
+use Rattle.std.proofs.Common.{reverse, Result, Ok, Err, Some, None, refl, sym, ap, subst, ◌∙◌, arith, inl}
 use Rattle.std.proofs.Common.{inr, ◌||◌, ◌++◌, Option, append-nil}
 use Rattle.std.specs.List.{list_any}
 use Rattle.std.specs.Option.{option_map}
@@ -15,7 +15,7 @@ use Rattle.pg_walk.specs.Left.{BeginsWalk, HasGiven, Spot, shown as found_in}
 use Rattle.pg_walk.specs.declared.item.Item.{Item}
 use Rattle.pg_files.specs.Given.{FileOutcome, NoFile, File, is_reading, gave_bytes, gave_end}
 use Rattle.pg_files.specs.Given.{AreGiven, MaySpare, is_output, name_of, names_in, shown_name}
-use Rattle.pg_files.specs.Asking.{ReadGives, read_given}
+use Rattle.pg_files.specs.Asking.{ReadGives, TakesBuffered, read_given}
 use Rattle.pg_files.specs.Listed.{asked_for, file_paths, of_items, shown, AreOpened, AreSpared}
 use Rattle.pg_files.specs.Listed.{Sought, given_by, sought, Reaches}
 use Rattle.pg_files.specs.declared.files.Step.{Step}
@@ -61,6 +61,14 @@ read_by input into items past past' (Ok count) r gives =
     (gives.0, ap (given_by input items) gives.1 ∙ given_count input into count items past r)
 read_by input into items past past' (Err e) r gives = ap (given_by input items) gives ∙ end_by input true items past r
 
+-- so is what is taken whole of it
+pub taken_by : (input : List ℕ) (items : List Found) (past past' : List FileOutcome) (taken : Option (List ℕ)) →
+    is_reading (given_by input items past) ≡ true → TakesBuffered taken past past' →
+    TakesBuffered taken (given_by input items past) (given_by input items past')
+taken_by input items past past' None r gives = ap (given_by input items) gives
+taken_by input items past past' (Some bytes) r gives =
+    (gives.0, ap (given_by input items) gives.1 ∙ bytes_by input bytes items past r)
+
 -- what is behind the open file stays
 bytes_behind : (input : List ℕ) (more : List ℕ) (items : List Found) (past : List FileOutcome)
     → is_reading (given_by input items past) ≡ true →
@@ -94,6 +102,13 @@ read_behind input into items past past' (Ok count) r gives =
     ap (drop (length (file_paths items))) gives.1 ∙ count_behind input into count items past r
 read_behind input into items past past' (Err e) r gives =
     ap (drop (length (file_paths items))) gives ∙ end_behind input true items past r
+
+pub taken_behind : (input : List ℕ) (items : List Found) (past past' : List FileOutcome) (taken : Option (List ℕ)) →
+    is_reading (given_by input items past) ≡ true → TakesBuffered taken past past' →
+    drop (length (file_paths items)) past' ≡ drop (length (file_paths items)) past
+taken_behind input items past past' None r gives = ap (drop (length (file_paths items))) gives
+taken_behind input items past past' (Some bytes) r gives =
+    ap (drop (length (file_paths items))) gives.1 ∙ bytes_behind input bytes items past r
 
 -- a path was opened after the others
 paths_more : (path : List ℕ) (items : List Found) (g : FileOutcome) (past : List FileOutcome) → name_of g ≡ path →
@@ -135,6 +150,14 @@ opened_by_read into items past past' (Ok count) gives are =
 opened_by_read into items past past' (Err f) gives are =
     ap (λ gs. map name_of (of_items items gs)) gives ∙ same_names_end true past (length (file_paths items)) ∙ are
 
+-- nor does what is taken whole
+pub opened_by_taking : (items : List Found) (past past' : List FileOutcome) (taken : Option (List ℕ)) →
+    TakesBuffered taken past past' → AreOpened items past → AreOpened items past'
+opened_by_taking items past past' None gives are = ap (λ gs. map name_of (of_items items gs)) gives ∙ are
+opened_by_taking items past past' (Some bytes) gives are =
+    ap (λ gs. map name_of (of_items items gs)) gives.1
+    ∙ same_names bytes past (length (file_paths items)) ∙ are
+
 same_output : (more : List ℕ) (given : List FileOutcome) (n : ℕ) →
     list_any is_output (take n (gave_bytes more given)) ≡ list_any is_output (take n given)
 same_output more given zero = refl
@@ -163,6 +186,15 @@ spared_by into spares items past past' (Ok count) gives are = λ e.
     ∙ same_output_count into count past (length (file_paths items)) ∙ are e
 spared_by into spares items past past' (Err f) gives are = λ e.
     ap (λ gs. list_any is_output (of_items items gs)) gives ∙ same_output_end true past (length (file_paths items))
+    ∙ are e
+
+-- nor does what is taken whole
+pub spared_by_taking : (spares : Bool) (items : List Found) (past past' : List FileOutcome) (taken : Option (List ℕ)) →
+    TakesBuffered taken past past' → AreSpared spares items past → AreSpared spares items past'
+spared_by_taking spares items past past' None gives are = λ e.
+    ap (λ gs. list_any is_output (of_items items gs)) gives ∙ are e
+spared_by_taking spares items past past' (Some bytes) gives are = λ e.
+    ap (λ gs. list_any is_output (of_items items gs)) gives.1 ∙ same_output bytes past (length (file_paths items))
     ∙ are e
 
 abbrev head_or : List (List ℕ) → List ℕ

@@ -1,5 +1,6 @@
 -- What one question to files adds to what they gave.
-use Rattle.std.specs.Prelude.{◌≡◌, ℕ, zero, suc, ◌≤◌, true, false, List, ◌∷◌, [], length, take, Result, Ok, Err}
+use Rattle.std.specs.Prelude.{◌≡◌, ℕ, zero, suc, ◌<◌, ◌≤◌, true, false, List, ◌∷◌, [], length, take, Result, Ok, Err}
+use Rattle.std.specs.Prelude.{Option, Some, None}
 use Rattle.pg_base.specs.Entries.{Left}
 use Rattle.pg_files.specs.Given.{FileOutcome, NoFile, File, FilesPast, gave_bytes, gave_end}
 use Rattle.pg_files.specs.declared.files.Step.{Step}
@@ -21,3 +22,8 @@ read_given into (suc count) given = gave_bytes (take (suc count) into) given
 abbrev pub ReadGives : {E : Type 0} → List ℕ → List FileOutcome → List FileOutcome → Result ℕ E → Type 0
 ReadGives into given given' (Ok count) = (count ≤ length into) × (given' ≡ read_given into count given)
 ReadGives into given given' (Err _) = given' ≡ gave_end true given
+
+-- All that was left of a file was taken, which is some, as far as it was in memory; or nothing was.
+abbrev pub TakesBuffered : Option (List ℕ) → List FileOutcome → List FileOutcome → Type 0
+TakesBuffered None given given' = given' ≡ given
+TakesBuffered (Some bytes) given given' = (0 < length bytes) × (given' ≡ gave_bytes bytes given)

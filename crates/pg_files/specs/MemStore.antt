@@ -2,6 +2,7 @@
 use Rattle.std.specs.Prelude.{◌≡◌, ℕ, nat_eq, min, List, [], ◌∷◌, map, length, take, drop, Option, Some, None, Result}
 use Rattle.std.specs.Prelude.{Ok, Err, slice_get, if◌then◌else◌, option_and_then, option_map}
 use Rattle.std.specs.String.{string_bytes}
+use Rattle.std.specs.declared.alloc.Allocator.{Ghosts}
 use lib.Pointwise.{pointwise}
 use Rattle.pg_files.specs.declared.mem_store.Ending.{Ending}
 use Rattle.pg_files.specs.declared.mem_store.Ending.TheVariants.{Ends, Fails}
@@ -17,7 +18,7 @@ abbrev pub stored : MemFile → List ℕ × Content
 stored file = (string_bytes file.path, record { bytes = file.bytes.items; ending = file.ending })
 
 -- the paths with their files, in the order in which they were added
-abbrev pub files : MemStore → List (List ℕ × Content)
+abbrev pub files : {A : Type 0} {asks : Ghosts A} → MemStore A asks → List (List ℕ × Content)
 files store = map stored store.files.items
 
 -- the first file at a path
@@ -34,7 +35,7 @@ abbrev pub left_of : List (List ℕ × Content) → Option ℕ → ℕ → Optio
 left_of fs place at = option_map (λ f. behind at f.1) (option_and_then (slice_get fs) place)
 
 -- what the open file has left
-abbrev pub left : MemStore → Option Content
+abbrev pub left : {A : Type 0} {asks : Ghosts A} → MemStore A asks → Option Content
 left store = left_of (files store) store.open store.at
 
 -- bytes are left, or the file ends
@@ -50,3 +51,9 @@ Takes (Some content) after room into (Ok count) =
     MayRead content × (count ≡ min (length content.bytes) room) × (take count into ≡ take count content.bytes)
     × (after ≡ Some (behind count content))
 Takes (Some content) after room into (Err _) = (content.bytes ≡ []) × (content.ending ≡ Fails) × (after ≡ Some content)
+
+-- These are all bytes that the open file has left, and none are left behind them.
+abbrev pub TakesAll : Option Content → Option Content → List ℕ → Type 0
+TakesAll None after taken = ⊥
+TakesAll (Some content) after taken =
+    (taken ≡ content.bytes) × (after ≡ Some (behind (length taken) content))

@@ -1,8 +1,8 @@
 //! The system's files.
 ghost use Rattle.std.specs.Prelude.{◌≡◌, ◌≢◌, ◌⊎◌, ◌∷◌, ◌↔◌, length, true, OnOk, IfErr, IsErr, IsOk, IsSome, IsTrue};
-ghost use Rattle.std.specs.Prelude.{codes};
+ghost use Rattle.std.specs.Prelude.{◌≤◌, [], codes, length, option_map, IfNone, IfSome, Some};
 ghost use Rattle.std.specs.Io.KnownBytes.{ReadConsumes};
-ghost use Rattle.pg_files.specs.Asking.{ReadGives};
+ghost use Rattle.pg_files.specs.Asking.{ReadGives, TakesBuffered};
 ghost use Rattle.pg_files.specs.Store.{Opens};
 
 use crate::files::ReadFault;
@@ -11,6 +11,7 @@ use crate::store::{OpenFault, Store};
 use crate::whole_file::WholeFile;
 use pg_base::Cause;
 use pg_walk::Identity;
+use std::alloc::Global;
 use std::fs::{Metadata, OpenFile};
 use std::io::{ErrorKind, Read};
 use std::marker::Model;
@@ -141,6 +142,8 @@ impl<R: Files + Input + Drop> Store for DiskStore<R> {
     ghost use Rattle.pg_files.specs.declared.store.OpenFault.TheVariants.{Refused, OutOfMemory};
     ghost use Rattle.pg_base.specs.declared.cause.Cause.TheVariants.{CannotOpen, IsOutput};
 
+    type Alloc = Global;
+
     ghost past = { λ s. s.past };
 
     /// Which file the system opens for a path no contract can say.
@@ -220,5 +223,23 @@ impl<R: Files + Input + Drop> Store for DiskStore<R> {
                 Err(ReadFault)
             }
         }
+    }
+
+    fn take_buffered(&mut self, most: usize) -> Option<Vec<u8>>
+        ensures taken { TakesBuffered (option_map (λ taken. taken.items) result) self.old.past self.new.past }
+        ensures few { IfSome result (λ taken. length taken.items ≤ most) }
+        ensures all { IfSome result (λ taken. self.old.left ≡ Some taken.items) }
+        ensures left { IfSome result (λ _. self.new.left ≡ Some []) }
+        ensures whole { IfSome result (λ _. self.old.reads ≡ AWholeFile) }
+        ensures none { IfNone result (self.new.left ≡ self.old.left) }
+        ensures reads { self.new.reads ≡ self.old.reads }
+        ensures output { self.new.output ≡ self.old.output }
+    {
+        let Source::Whole(file, given) = &mut self.source else {
+            return None;
+        };
+        let taken = file.take_bytes(*given, most)?;
+        self.past.give(taken.as_slice());
+        Some(taken)
     }
 }

@@ -1,10 +1,10 @@
 //! Files that are given one after another.
-ghost use Rattle.std.specs.Prelude.{◌≡◌, ◌<◌, ℕ, false, true, List, length, IfOk, OnErr};
+ghost use Rattle.std.specs.Prelude.{◌≡◌, ◌<◌, ◌≤◌, ℕ, false, true, List, length, option_map, IfOk, IfSome, OnErr};
 ghost use Rattle.pg_files.specs.Given.{AllGiven, FilesPast, is_reading, newest_name};
-ghost use Rattle.pg_files.specs.Asking.{NextGives, ReadGives};
+ghost use Rattle.pg_files.specs.Asking.{NextGives, ReadGives, TakesBuffered};
 
 use pg_base::Cause;
-use std::alloc::AllocError;
+use std::alloc::{AllocError, Allocator};
 use thiserror::Error;
 
 /// A read that failed.
@@ -25,6 +25,9 @@ pub enum Step {
 
 /// Files that are given one after another, and read as far as that is asked for.
 pub trait Files {
+    /// What the memory of files is asked of that are in memory already.
+    type Alloc: Allocator;
+
     /// What can be asked for.
     ghost Request: { Type 0 };
 
@@ -72,6 +75,16 @@ pub trait Files {
         requires reading { is_reading (past self.old).given ≡ true }
         ensures given { ReadGives into.new (past self.old).given (past self.new).given result }
         ensures size { length into.new ≡ length into.old }
+        ensures done { (past self.new).done ≡ (past self.old).done }
+        ensures same_list { list self.new ≡ list self.old };
+
+    /// Takes all that is left of the newest file, with its memory, if that is in memory already, and is at least one
+    /// byte and at most `most`. The file's end, which wasn't met before, isn't met by that, and no read of it failed.
+    fn take_buffered(&mut self, most: usize) -> Option<Vec<u8, Self::Alloc>>
+        requires reading { is_reading (past self.old).given ≡ true }
+        ensures taken { TakesBuffered (option_map (λ taken. taken.items) result)
+            (past self.old).given (past self.new).given }
+        ensures few { IfSome result (λ taken. length taken.items ≤ most) }
         ensures done { (past self.new).done ≡ (past self.old).done }
         ensures same_list { list self.new ≡ list self.old };
 }

@@ -168,6 +168,8 @@ impl<'t, T: FileTree, S: Store + Drop> OperandFiles<'t, T, S> {
 }
 
 impl<T: FileTree, S: Store + Drop> Files for OperandFiles<'_, T, S> {
+    type Alloc = S::Alloc;
+
     ghost use Rattle.std.specs.Prelude.{List, map};
     ghost use Rattle.std.specs.String.{string_bytes};
     ghost use Rattle.pg_walk.specs.Items.{Found};
@@ -221,6 +223,10 @@ impl<T: FileTree, S: Store + Drop> Files for OperandFiles<'_, T, S> {
 
     fn read(&mut self, into: &mut [u8]) -> Result<usize, ReadFault> {
         self.store.read(into)
+    }
+
+    fn take_buffered(&mut self, most: usize) -> Option<Vec<u8, S::Alloc>> {
+        self.store.take_buffered(most)
     }
 }
 

@@ -1,7 +1,7 @@
 //! Files in memory, for tests.
 ghost use Rattle.std.specs.Prelude.{◌≡◌, ◌≤◌, ◌+◌, ◌^◌, ◌⊎◌, ◌++◌, ◌∷◌, [], map, min, length, is_some, option_and_then};
-ghost use Rattle.std.specs.Prelude.{ℕ, ◌<◌, option_map, slice_get, Some, IfSome, OnOk, OnErr};
-ghost use Rattle.pg_files.specs.Asking.{ReadGives};
+ghost use Rattle.std.specs.Prelude.{ℕ, ◌<◌, option_map, slice_get, Some, IfNone, IfSome, OnOk, OnErr};
+ghost use Rattle.pg_files.specs.Asking.{ReadGives, TakesBuffered};
 ghost use Rattle.pg_files.specs.Store.{Opens};
 
 use crate::files::ReadFault;
@@ -10,7 +10,7 @@ use crate::past::StorePast;
 use crate::store::{OpenFault, Store};
 use pg_base::Cause;
 use pg_walk::MemTree;
-use std::alloc::{AllocError, Global};
+use std::alloc::{AllocError, Allocator, Global};
 
 /// What happens behind the bytes of a file.
 #[derive(Clone, Copy, Debug, PartialEq, Eq)]
@@ -38,21 +38,23 @@ impl Drop for MemFile {
 }
 
 /// Files in memory, found in a tree in memory.
-pub type MemFiles<'t> = OperandFiles<'t, MemTree, MemStore>;
+pub type MemFiles<'t, A = Global> = OperandFiles<'t, MemTree, MemStore<A>>;
 
 /// Files in memory. Standard input is the file at `-`.
-pub struct MemStore {
+pub struct MemStore<A: Allocator + Copy = Global> {
     alloc: Global,
     files: Vec<MemFile>,
     open: Option<usize>,
     at: usize,
     read_limit: usize,
+    /// Where files can be taken whole, what their memory is asked of then.
+    buffers: Option<A>,
     past: StorePast,
     ghost some_bytes: { 1 ≤ read_limit },
     ghost is_open: { (place : ℕ) → «open» ≡ Some place → place < length files.items },
 }
 
-impl Drop for MemStore {
+impl<A: Allocator + Copy> Drop for MemStore<A> {
     fn drop(self) {
         let MemStore {
             alloc: _,
@@ -60,16 +62,18 @@ impl Drop for MemStore {
             open: _,
             at: _,
             read_limit: _,
+            buffers: _,
             past: _,
         } = self;
     }
 }
 
-impl MemStore {
+impl<A: Allocator + Copy> MemStore<A> {
     ghost use Rattle.pg_files.specs.MemStore.{stored, files, left, left_of, file_at};
 
-    /// A store without files, in which no file can be opened. A read gives as much as it can.
-    pub fn new(alloc: Global) -> MemStore
+    /// A store without files, in which no file can be opened. A read gives as much as it can, and no file can be taken
+    /// whole.
+    pub fn new(alloc: Global) -> MemStore<A>
         ensures files { files result ≡ [] }
         ensures past { result.past ≡ [] }
         ensures limit { result.read_limit ≡ usize.MAX }
@@ -80,6 +84,7 @@ impl MemStore {
             open: None,
             at: 0,
             read_limit: usize::MAX,
+            buffers: None,
             past: StorePast::new(),
         }
     }
@@ -118,6 +123,16 @@ impl MemStore {
         self.read_limit = read_limit;
     }
 
+    /// From now on what is left of a file can be taken whole, in memory of this. Where that is refused it can't.
+    pub fn buffer(&mut self, alloc: A)
+        ensures files { files self.new ≡ files self.old }
+        ensures left { left self.new ≡ left self.old }
+        ensures past { self.new.past ≡ self.old.past }
+        ensures limit { self.new.read_limit ≡ self.old.read_limit }
+    {
+        self.buffers = Some(alloc);
+    }
+
     /// The place of the first file at a path.
     fn place_of(&self, path: &str) -> Option<usize>
         ensures place { option_map (λ f. f.1) (option_and_then (slice_get (files self.now)) result)
@@ -148,11 +163,13 @@ impl MemStore {
     }
 }
 
-impl Store for MemStore {
+impl<A: Allocator + Copy> Store for MemStore<A> {
+    type Alloc = A;
+
     ghost use Rattle.std.specs.Prelude.{None, true};
     ghost use Rattle.pg_base.specs.declared.cause.Cause.TheVariants.{CannotOpen};
     ghost use Rattle.pg_files.specs.declared.store.OpenFault.TheVariants.{Refused};
-    ghost use Rattle.pg_files.specs.MemStore.{files, left, file_at, Takes};
+    ghost use Rattle.pg_files.specs.MemStore.{files, left, file_at, Takes, TakesAll};
 
     ghost past = { λ s. s.past };
 
@@ -187,7 +204,7 @@ impl Store for MemStore {
         ensures files { files self.new ≡ files self.old }
         ensures limit { self.new.read_limit ≡ self.old.read_limit }
     {
-        let Some((rest, ending)) = MemStore::left_of(&self.files, self.open, self.at) else {
+        let Some((rest, ending)) = Self::left_of(&self.files, self.open, self.at) else {
             self.past.end(true);
             return Err(ReadFault);
         };
@@ -204,5 +221,24 @@ impl Store for MemStore {
             self.past.give(&into[..count]);
         }
         Ok(count)
+    }
+
+    fn take_buffered(&mut self, most: usize) -> Option<Vec<u8, A>>
+        ensures taken { TakesBuffered (option_map (λ taken. taken.items) result) self.old.past self.new.past }
+        ensures few { IfSome result (λ taken. length taken.items ≤ most) }
+        ensures takes { IfSome result (λ taken. TakesAll (left self.old) (left self.new) taken.items) }
+        ensures none { IfNone result (left self.new ≡ left self.old) }
+        ensures files { files self.new ≡ files self.old }
+        ensures limit { self.new.read_limit ≡ self.old.read_limit }
+    {
+        let alloc = self.buffers?;
+        let (rest, _) = Self::left_of(&self.files, self.open, self.at)?;
+        if rest.is_empty() || rest.len() > most {
+            return None;
+        }
+        let taken = Vec::from_slice(alloc, rest).ok()?;
+        self.at += taken.len();
+        self.past.give(taken.as_slice());
+        Some(taken)
     }
 }

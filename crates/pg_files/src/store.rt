@@ -1,11 +1,12 @@
 //! Files by their paths.
-ghost use Rattle.std.specs.Prelude.{◌≡◌, ◌<◌, length, List, true};
+ghost use Rattle.std.specs.Prelude.{◌≡◌, ◌<◌, ◌≤◌, length, option_map, IfSome, List, true};
 ghost use Rattle.pg_files.specs.Given.{FileOutcome, is_reading};
-ghost use Rattle.pg_files.specs.Asking.{ReadGives};
+ghost use Rattle.pg_files.specs.Asking.{ReadGives, TakesBuffered};
 ghost use Rattle.pg_files.specs.Store.{Opens};
 
 use crate::files::ReadFault;
 use pg_base::Cause;
+use std::alloc::Allocator;
 
 /// Why a path isn't opened.
 #[derive(Clone, Copy, Debug, PartialEq, Eq)]
@@ -18,6 +19,9 @@ pub enum OpenFault {
 
 /// Files that are opened by their paths and read one at a time.
 pub trait Store {
+    /// What the memory of files is asked of that are in memory already.
+    type Alloc: Allocator;
+
     /// What the files gave, by their paths.
     ghost past: { Self → List FileOutcome };
 
@@ -49,4 +53,11 @@ pub trait Store {
         requires reading { is_reading (past self.old) ≡ true }
         ensures given { ReadGives into.new (past self.old) (past self.new) result }
         ensures size { length into.new ≡ length into.old };
+
+    /// Takes all that is left of the open file, with its memory, if that is in memory already, and is at least one byte
+    /// and at most `most`. The file's end, which wasn't met before, isn't met by that, and no read of it failed.
+    fn take_buffered(&mut self, most: usize) -> Option<Vec<u8, Self::Alloc>>
+        requires reading { is_reading (past self.old) ≡ true }
+        ensures taken { TakesBuffered (option_map (λ taken. taken.items) result) (past self.old) (past self.new) }
+        ensures few { IfSome result (λ taken. length taken.items ≤ most) };
 }

@@ -1,14 +1,14 @@
 //! Files that are opened and read before their turn comes.
-ghost use Rattle.std.specs.Prelude.{◌≡◌, ◌≤◌, ◌<◌, ◌++◌, [], IfSome, drop, length, take};
+ghost use Rattle.std.specs.Prelude.{◌≡◌, ◌≤◌, ◌<◌, ◌++◌, [], IfNone, IfSome, drop, length, take};
 
 use crate::disk_store::regular_id;
 use pg_base::History;
 use pg_walk::Identity;
 use std::alloc::{Allocator, Global};
-use std::fs;
 use std::fs::OpenFile;
 use std::io::Read;
 use std::rt::Files;
+use std::{fs, mem};
 
 /// A regular file that was opened, read to its end and closed again.
 pub struct WholeFile<A: Allocator = Global> {
@@ -81,6 +81,20 @@ impl<A: Allocator> WholeFile<A> {
 }
 
 impl<A: Allocator + Copy> WholeFile<A> {
+    /// Takes all its bytes, if none were given and it has some, and at most `most`. Then it has none.
+    pub(crate) fn take_bytes(&mut self, given: usize, most: usize) -> Option<Vec<u8, A>>
+        ensures some { IfSome result (λ taken. (0 < length taken.items) × (length taken.items ≤ most)) }
+        ensures taken { IfSome result (λ taken. drop given self.old.bytes.items ≡ taken.items) }
+        ensures left { IfSome result (λ _. drop given self.new.bytes.items ≡ []) }
+        ensures none { IfNone result (drop given self.new.bytes.items ≡ drop given self.old.bytes.items) }
+    {
+        if given > 0 || self.bytes.is_empty() || self.bytes.len() > most {
+            return None;
+        }
+        let alloc = *self.bytes.allocator();
+        Some(mem::replace(&mut self.bytes, Vec::new(alloc)))
+    }
+
     /// The file that the system opens for a path, if it is a regular one of at most so many bytes that can be read now,
     /// and there is memory for it.
     pub fn open<R: Files>(rt: &R, alloc: A, path: &str, most: usize) -> Option<WholeFile<A>>

@@ -4,17 +4,41 @@ use std::alloc::{AllocError, Global};
 use std::sync::Arc;
 use std::sync::atomic::{AtomicUsize, Ordering};
 
-/// Once files of so many bytes are held nothing more is looked at ahead.
-const MOST: usize = 1 << 20;
+/// How far entries may be looked at ahead.
+#[derive(Clone, Copy)]
+pub(crate) struct Level {
+    /// Only while files of less than so many bytes are held.
+    most: usize,
+    /// A thread that waits for room wakes once files of less than so many bytes are held.
+    wakes_below: usize,
+}
+
+/// For entries of the directories that the walk is inside of.
+pub(crate) const INSIDE: Level = Level {
+    most: 3_145_728,
+    wakes_below: 2_359_296,
+};
+
+/// For entries of directories that the walk will come to. It leaves room for the others: what is held for later is
+/// held until the walk has come there.
+pub(crate) const AHEAD: Level = Level {
+    most: 1_572_864,
+    wakes_below: 1_048_576,
+};
 
 /// Counts the bytes of the files that are held.
 pub(crate) struct Budget {
     held: Arc<AtomicUsize>,
+    /// A thread waits until less than so many are. 0 where none waits.
+    wakes_below: AtomicUsize,
 }
 
 impl Drop for Budget {
     fn drop(self) {
-        let Budget { held: _ } = self;
+        let Budget {
+            held: _,
+            wakes_below: _,
+        } = self;
     }
 }
 
@@ -36,17 +60,32 @@ impl Budget {
     pub(crate) fn new(alloc: Global) -> Result<Budget, AllocError> {
         Ok(Budget {
             held: Arc::new(alloc, AtomicUsize::new(0))?,
+            wakes_below: AtomicUsize::new(0),
         })
     }
 
-    /// Whether nothing more is to be looked at ahead.
-    pub(crate) fn is_spent(&self) -> bool {
-        self.held.load(Ordering::SeqCst) >= MOST
+    fn held(&self) -> usize {
+        self.held.load(Ordering::SeqCst)
     }
 
-    /// Whether half of that is held, so that no sleeping thread is worth waking.
-    pub(crate) fn is_half_spent(&self) -> bool {
-        self.held.load(Ordering::SeqCst) >= MOST / 2
+    /// Whether entries may be looked at. Where they may not, `has_come_free` will tell when that is worth asking again.
+    pub(crate) fn has_room(&self, level: &Level) -> bool {
+        if self.held() < level.most {
+            return true;
+        }
+        self.wakes_below
+            .fetch_max(level.wakes_below, Ordering::SeqCst);
+        false
+    }
+
+    /// Whether so little is held that threads which found no room are to look again. It tells that once.
+    pub(crate) fn has_come_free(&self) -> bool {
+        let below = self.wakes_below.load(Ordering::SeqCst);
+        if self.held() >= below {
+            return false;
+        }
+        self.wakes_below.store(0, Ordering::SeqCst);
+        true
     }
 
     /// Counts so many bytes as held.

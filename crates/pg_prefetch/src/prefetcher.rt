@@ -144,11 +144,13 @@ impl Prefetcher {
         kind
     }
 
-    /// Wakes a sleeping thread, if there is enough to look at for it.
+    /// Wakes the threads that sleep until less is held, once that is so; or a sleeping one, if there is enough to look at
+    /// for it.
     fn wake(&self) {
         let Some(shared) = &self.shared else {
             return;
         };
+        shared.wake_for_room();
         if shared.may_wake() && self.inside.iter().any(|it| it.is_worth_waking()) {
             shared.wake(false);
         }

@@ -3,7 +3,7 @@ ghost use Rattle.std.specs.Prelude.{◌≡◌, IfSome};
 ghost use Rattle.std.specs.Arc.{arc_value};
 ghost use Rattle.std.specs.String.{string_bytes};
 
-use crate::budget::Budget;
+use crate::budget::{AHEAD, Budget, INSIDE};
 use crate::directory::Directory;
 use pg_walk::Scope;
 use std::alloc::Global;
@@ -59,12 +59,10 @@ fn comes_before(one: &str, other: &str) -> bool {
 
 /// Where the first of some directories stands that a walk comes to before a path; their number, if there is none.
 fn place_behind(directories: &[Arc<Directory>], path: &str) -> usize {
-    for (at, directory) in directories.iter().enumerate() {
-        if comes_before(directory.path(), path) {
-            return at;
-        }
-    }
-    directories.len()
+    directories
+        .iter()
+        .position(|it| comes_before(it.path(), path))
+        .unwrap_or(directories.len())
 }
 
 /// The last of some directories alone.
@@ -74,12 +72,8 @@ fn innermost(directories: &[Arc<Directory>]) -> &[Arc<Directory>] {
 
 /// The last of some directories of whose entries one may be looked at.
 fn last_open(directories: &[Arc<Directory>]) -> Option<Arc<Directory>> {
-    for directory in directories.iter().rev() {
-        if directory.has_next() {
-            return Arc::try_clone(directory).ok();
-        }
-    }
-    None
+    let found = directories.iter().rev().find(|it| it.has_next())?;
+    Arc::try_clone(found).ok()
 }
 
 impl Shared {
@@ -156,23 +150,33 @@ impl Shared {
     /// A directory of whose entries one may be looked at: the one that the walk is in, else the next that it will come
     /// to, else one further up. There is none where too much is held.
     pub(crate) fn next_directory<R: Wait>(&self, rt: &R) -> Option<Arc<Directory>> {
-        if self.budget.is_spent() {
+        if !self.budget.has_room(&INSIDE) {
             return None;
         }
         let innermost = last_open(innermost(&self.inside.lock(rt)));
         if innermost.is_some() {
             return innermost;
         }
-        let ahead = last_open(&self.ahead.lock(rt));
-        if ahead.is_some() {
-            return ahead;
+        if self.budget.has_room(&AHEAD) {
+            let ahead = last_open(&self.ahead.lock(rt));
+            if ahead.is_some() {
+                return ahead;
+            }
         }
         last_open(&self.inside.lock(rt))
     }
 
-    /// Whether a thread sleeps, and so little is held that it may be woken.
+    /// Whether a thread sleeps that would find room to look at more.
     pub(crate) fn may_wake(&self) -> bool {
-        self.asleep.load(Ordering::SeqCst) > 0 && !self.budget.is_half_spent()
+        self.asleep.load(Ordering::SeqCst) > 0 && self.budget.has_room(&INSIDE)
+    }
+
+    /// Wakes the threads that sleep until less is held, once that is so.
+    pub(crate) fn wake_for_room(&self) {
+        if self.budget.has_come_free() {
+            self.signal.fetch_add(1, Ordering::SeqCst);
+            self.wake(true);
+        }
     }
 
     /// Wakes a sleeping thread, or all of them, if there are any.

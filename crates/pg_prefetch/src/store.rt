@@ -3,6 +3,7 @@ ghost use Rattle.pg_files.specs.DiskStore.{IsUnopened};
 
 use crate::tree::PrefetchTree;
 use pg_files::{DiskStore, OpenFault, ReadFault, Store};
+use std::alloc::Global;
 use std::rt::Files;
 use std::sync::Wait;
 
@@ -32,6 +33,8 @@ impl<'t, R: Files + Input + Wait + Copy + Drop> PrefetchStore<'t, R> {
 }
 
 impl<R: Files + Input + Wait + Copy + Drop> Store for PrefetchStore<'_, R> {
+    type Alloc = Global;
+
     ghost past = { λ s. s.disk.past };
 
     fn open(&mut self, path: &str, spares_output: bool) -> Result<(), OpenFault> {
@@ -47,5 +50,9 @@ impl<R: Files + Input + Wait + Copy + Drop> Store for PrefetchStore<'_, R> {
 
     fn read(&mut self, into: &mut [u8]) -> Result<usize, ReadFault> {
         self.disk.read(into)
+    }
+
+    fn take_buffered(&mut self, most: usize) -> Option<Vec<u8>> {
+        self.disk.take_buffered(most)
     }
 }

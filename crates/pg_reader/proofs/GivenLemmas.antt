@@ -1,6 +1,6 @@
--- What was given, as one read changes it: for `read_copied` and `read_in_place`.
+-- What was given, as one read changes it: for `take_buffered`, `read_copied` and `read_in_place`.
 use Rattle.std.proofs.Common.{◌≡◌, ◌≢◌, ◌⊎◌, ◌<◌, ◌≤◌, ◌^◌, ℕ, zero, suc, Bool, false, List, [], ◌∷◌, ◌++◌, length}
-use Rattle.std.proofs.Common.{take, drop, refl, ap, sym, subst, ◌∙◌}
+use Rattle.std.proofs.Common.{take, drop, refl, ap, sym, subst, arith, ◌∙◌}
 use Rattle.std.proofs.lemmas.List.{append-nil, append_cancel_left, length-take-le}
 use Rattle.std.specs.List.{Any}
 use Rattle.pg_blocks.specs.Lines.{lines}
@@ -61,3 +61,10 @@ read_grows into count {before = before} {name = name} {bytes = bytes} {ending = 
     let piece = take count into in
     grows piece name bytes ending before (took_some count into low some)
     (ap (gave_bytes piece) (sym newest) ∙ sym (e ∙ read_some into count _ some) ∙ same ∙ newest)
+
+-- and so does what is taken of a file
+pub taken_grows : (piece : List ℕ) {given given' before : List FileOutcome} {name bytes : List ℕ} {ending : Ending}
+    → given ≡ File name bytes ending ∷ before → 0 < length piece → given' ≡ gave_bytes piece given → given' ≢ given
+taken_grows piece {before = before} {name = name} {bytes = bytes} {ending = ending} newest some e same =
+    grows piece name bytes ending before (λ none. omega (arith, some, ap length none))
+    (ap (gave_bytes piece) (sym newest) ∙ sym e ∙ same ∙ newest)

@@ -62,6 +62,15 @@ module _ {A : Type 0} {reader : FileReader A} {fed : CutterPast} {lost : List �
         stops = inr (came, refl);
       }
 
+-- A reader that is the same has fed the same.
+pub fed_yet : {A : Type 0} {reader reader' : FileReader A} {fed : CutterPast} {lost : List ℕ}
+    {given given' : List FileOutcome} → (reader' ≡ reader) × (given' ≡ given) → HasFed reader fed lost given
+    → HasFed reader' fed lost given'
+fed_yet {A = A} {reader' = reader'} {fed = fed} {lost = lost} {given = given} same h =
+    let P : FileReader A → Type 0 = λ r. HasFed r fed lost given in
+    let Q : List FileOutcome → Type 0 = λ gs. HasFed reader' fed lost gs in
+    subst Q (sym same.1) (subst P (sym same.0) h)
+
 -- A file that may be read further.
 module _ {A : Type 0} {reader : FileReader A} {fed : CutterPast} {lost : List ℕ} {given : List FileOutcome}
     (h : HasFed reader fed lost given) (more : reader.came ≡ More) where

@@ -1,5 +1,5 @@
 //! The reader of the open file.
-ghost use Rattle.std.specs.Prelude.{◌≡◌, ◌≢◌, ◌<◌, vec_len, length, IfSome, IfNone, OnOk};
+ghost use Rattle.std.specs.Prelude.{◌≡◌, ◌≢◌, ◌<◌, vec_len, length, true, false, IfSome, IfNone, OnOk};
 ghost use Rattle.pg_blocks.specs.Cutter.{IsCutterAfter, CutterPast, IsDrained, IsNextBlock, AreAllBlocks};
 ghost use Rattle.pg_blocks.specs.Cutter.{handed, handed_early, HasLinesLeft, KeepsCutter, room_of, unfed};
 
@@ -47,6 +47,8 @@ pub struct FileReader<A: Allocator + Copy = Global> {
     buffer: Vec<u8, A>,
     /// How many more reads of the open file go through the buffer.
     copied_reads: u32,
+    /// The most bytes that are taken at once of a file that is in memory already.
+    most_taken: usize,
 }
 
 impl<A: Allocator + Copy> Drop for FileReader<A> {
@@ -59,6 +61,7 @@ impl<A: Allocator + Copy> Drop for FileReader<A> {
             ahead: _,
             buffer: _,
             copied_reads: _,
+            most_taken: _,
         } = self;
     }
 }
@@ -83,9 +86,10 @@ impl<A: Allocator + Copy> FileReader<A> {
     ghost use Rattle.pg_reader.specs.Reads.{FeedsAllOrNone, HasNoFile, HasReadOn, MayBeRead};
     ghost use Rattle.pg_reader.specs.declared.file_reader.ReadOutcome.TheVariants.{More, End};
 
-    /// A reader that has no file yet, for blocks of `block` bytes. The first two reads of each file ask for 4,096 bytes
-    /// more, but for no more than 69,632, and are copied. Where memory for that is refused, none are.
-    pub fn new(alloc: A, block: u32) -> FileReader<A>
+    /// A reader that has no file yet, for blocks of `block` bytes. A file that is in memory already and has at most
+    /// `most_taken` bytes left is taken as it is. Of others the first two reads ask for 4,096 bytes more than a block
+    /// has, but for no more than 69,632, and are copied. Where memory for that is refused, none are.
+    pub fn new(alloc: A, block: u32, most_taken: usize) -> FileReader<A>
         ensures came { result.came ≡ End }
         ensures none { HasNoFile result }
     {
@@ -97,6 +101,7 @@ impl<A: Allocator + Copy> FileReader<A> {
             ahead: 0,
             buffer: buffer_of(alloc, (block as usize).saturating_add(LINE_ROOM)),
             copied_reads: 0,
+            most_taken,
         }
     }
 
@@ -152,8 +157,27 @@ impl<A: Allocator + Copy> FileReader<A> {
         self.cutter.make_room()
     }
 
+    /// Takes what is left of the open file, with its memory, if that is in memory already and isn't too long, and cuts it.
+    /// The file may be read further. The answer says whether it was taken.
+    fn take_buffered<F: Files<Alloc = A>>(&mut self, files: &mut F) -> bool
+        requires { MayBeRead self.old (F.past files.old).given }
+        ensures reads { HasReadOn F.past F.list self.old files.old self.new files.new }
+        ensures goes { result ≡ true → (F.past files.new).given ≢ (F.past files.old).given }
+        ensures refused { FeedsAllOrNone self.old (F.past files.old).given self.new (F.past files.new).given }
+        ensures none { result ≡ false
+            → (self.new ≡ self.old) × ((F.past files.new).given ≡ (F.past files.old).given) }
+    {
+        let Some(taken) = files.take_buffered(self.most_taken) else {
+            return false;
+        };
+        if let Err(why) = self.cutter.feed_owned(taken) {
+            self.came = ReadOutcome::Refused(why);
+        }
+        true
+    }
+
     /// Reads once, into the buffer, and cuts what came. The file may be read further.
-    fn read_copied<F: Files>(&mut self, files: &mut F)
+    fn read_copied<F: Files<Alloc = A>>(&mut self, files: &mut F)
         requires room { 0 < vec_len self.old.buffer }
         requires reading { MayBeRead self.old (F.past files.old).given }
         ensures reads { HasReadOn F.past F.list self.old files.old self.new files.new }
@@ -174,7 +198,7 @@ impl<A: Allocator + Copy> FileReader<A> {
     }
 
     /// Reads once, into the cutter's own room, and cuts what came. The file may be read further.
-    fn read_in_place<F: Files>(&mut self, files: &mut F)
+    fn read_in_place<F: Files<Alloc = A>>(&mut self, files: &mut F)
         requires { MayBeRead self.old (F.past files.old).given }
         ensures reads { HasReadOn F.past F.list self.old files.old self.new files.new }
         ensures goes { self.new.came ≡ More → (F.past files.new).given ≢ (F.past files.old).given }
@@ -197,18 +221,22 @@ impl<A: Allocator + Copy> FileReader<A> {
         }
     }
 
-    /// Reads the open file once, and cuts what came. The file may be read further: it is the newest that was given, all
-    /// that its reads gave was fed to the cutter, and none of them met its end or failed.
+    /// Reads the open file once, and cuts what came; or takes all that is left of it, where that is in memory already
+    /// and isn't too long. The file may be read further: it is the newest that was given, all that its reads gave was
+    /// fed to the cutter, and none of them met its end or failed.
     ///
     /// `came` says what came of it; at `More` the file gave some bytes. The cutter is fed all that the read gave, or
     /// none of it where it is `Refused`: with `LineTooLong` a line is longer than the cutter allows, with `FileTooLong`
     /// the file has more than 2^62 bytes, and with `OutOfMemory` a request for memory was refused.
-    pub fn read<F: Files>(&mut self, files: &mut F)
+    pub fn read<F: Files<Alloc = A>>(&mut self, files: &mut F)
         requires { MayBeRead self.old (F.past files.old).given }
         ensures reads { HasReadOn F.past F.list self.old files.old self.new files.new }
         ensures goes { self.new.came ≡ More → (F.past files.new).given ≢ (F.past files.old).given }
         ensures refused { FeedsAllOrNone self.old (F.past files.old).given self.new (F.past files.new).given }
     {
+        if self.take_buffered(files) {
+            return;
+        }
         if self.copied_reads == 0 || self.buffer.is_empty() {
             self.read_in_place(files);
             return;
@@ -259,7 +287,7 @@ impl<A: Allocator + Copy> FileReader<A> {
     }
 }
 
-impl<A: Allocator + Copy, F: Files> Reader<F> for FileReader<A> {
+impl<A: Allocator + Copy, F: Files<Alloc = A>> Reader<F> for FileReader<A> {
     ghost use Rattle.pg_reader.specs.Reads.{HasFedSome, HasReadOn};
 
     ghost ready = { λ reader files. HasFedSome reader (F.past files).given };

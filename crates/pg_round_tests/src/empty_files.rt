@@ -38,6 +38,8 @@ impl Drop for Awaited<'_> {
 }
 
 impl<'n> Store for Awaited<'n> {
+    type Alloc = Global;
+
     ghost past = { λ s. s.inner.past };
 
     fn open(&mut self, path: &str, spares_output: bool) -> Result<(), OpenFault> {
@@ -54,6 +56,10 @@ impl<'n> Store for Awaited<'n> {
 
     fn read(&mut self, into: &mut [u8]) -> Result<usize, ReadFault> {
         self.inner.read(into)
+    }
+
+    fn take_buffered(&mut self, most: usize) -> Option<Vec<u8>> {
+        self.inner.take_buffered(most)
     }
 }
 

@@ -33,6 +33,8 @@ impl Drop for Counted<'_> {
 }
 
 impl<'n> Store for Counted<'n> {
+    type Alloc = Global;
+
     ghost past = { λ s. s.inner.past };
 
     fn open(&mut self, path: &str, spares_output: bool) -> Result<(), OpenFault> {
@@ -46,6 +48,10 @@ impl<'n> Store for Counted<'n> {
     fn read(&mut self, into: &mut [u8]) -> Result<usize, ReadFault> {
         self.reads.fetch_add(1, Ordering::SeqCst);
         self.inner.read(into)
+    }
+
+    fn take_buffered(&mut self, most: usize) -> Option<Vec<u8>> {
+        self.inner.take_buffered(most)
     }
 }
 

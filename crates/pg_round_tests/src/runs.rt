@@ -90,14 +90,12 @@ impl Drop for Outcome {
 }
 
 /// What a run for the letter x does beside what it writes.
-pub(crate) fn run_over<R: Abort + Threads + Wait + Clock + Sync, F: Files, W: Sink, G: Gate + Sync>(
-    rt: &R,
-    alloc: Global,
-    setup: Setup,
-    files: &mut F,
-    out: &mut W,
-    gate: &G,
-) -> Outcome
+pub(crate) fn run_over<
+    R: Abort + Threads + Wait + Clock + Sync,
+    F: Files<Alloc = Global>,
+    W: Sink,
+    G: Gate + Sync,
+>(rt: &R, alloc: Global, setup: Setup, files: &mut F, out: &mut W, gate: &G) -> Outcome
     requires { F.past files.old ≡ nothing_given }
 {
     let text = text(alloc).expect(rt, "memory");

@@ -27,7 +27,7 @@ fn make_room<
     R: Threads + Wait + Clock + Sync,
     A: Allocator + Copy + Send + Sync,
     Q: BlockSearch<Alloc = A, Scratch: Send> + Sync,
-    F: Files,
+    F: Files<Alloc = A>,
     W: Sink,
 >(
     rt: &R,
@@ -60,7 +60,7 @@ fn search_ready<
     R: Threads + Wait + Clock + Sync,
     A: Allocator + Copy + Send + Sync,
     Q: BlockSearch<Alloc = A, Scratch: Send> + Sync,
-    F: Files,
+    F: Files<Alloc = A>,
     W: Sink,
 >(
     rt: &R,
@@ -113,7 +113,7 @@ fn search_lines<
 
 /// Whether what came of the open file is to be searched before the next read, though it fills no block: where that read
 /// may wait, or may find a small file's end alone, and lines that came may be enough.
-fn is_due<A: Allocator + Copy, Q: BlockSearch<Alloc = A>, F: Files>(
+fn is_due<A: Allocator + Copy, Q: BlockSearch<Alloc = A>, F: Files<Alloc = A>>(
     reader: &FileReader<A>,
     engine: &Engine<'_, A, Q>,
     files: &F,
@@ -127,7 +127,7 @@ fn settle<
     R: Threads + Wait + Clock + Sync,
     A: Allocator + Copy + Send + Sync,
     Q: BlockSearch<Alloc = A, Scratch: Send> + Sync,
-    F: Files,
+    F: Files<Alloc = A>,
     W: Sink,
 >(
     rt: &R,
@@ -169,7 +169,7 @@ fn read_once<
     R: Threads + Wait + Clock + Sync,
     A: Allocator + Copy + Send + Sync,
     Q: BlockSearch<Alloc = A, Scratch: Send> + Sync,
-    F: Files,
+    F: Files<Alloc = A>,
     W: Sink,
 >(
     rt: &R,
@@ -264,7 +264,7 @@ pub(crate) fn read_file<
     R: Threads + Wait + Clock + Sync,
     A: Allocator + Copy + Send + Sync,
     Q: BlockSearch<Alloc = A, Scratch: Send> + Sync,
-    F: Files,
+    F: Files<Alloc = A>,
     W: Sink,
 >(
     rt: &R,

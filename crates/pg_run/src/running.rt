@@ -16,7 +16,7 @@ ghost use Rattle.pg_run.specs.Reading.{BreaksOffBehind, GaveFile, GaveOneAtMost,
 ghost use Rattle.pg_reader.specs.Reads.{OnlyReadsOn};
 ghost use Rattle.pg_run.specs.declared.fault.RunFault.TheVariants.{Sink as SinkFailed};
 
-use crate::engine::Engine;
+use crate::engine::{Engine, is_endless};
 use crate::fault::RunFault;
 use crate::reading::read_file;
 use crate::setup::Setup;
@@ -103,7 +103,7 @@ fn one_file<
     R: Threads + Wait + Clock + Sync,
     A: Allocator + Copy + Send + Sync,
     Q: BlockSearch<Alloc = A, Scratch: Send> + Sync,
-    F: Files,
+    F: Files<Alloc = A>,
     W: Sink,
     E: Sink,
 >(
@@ -144,7 +144,7 @@ fn take_next<
     R: Threads + Wait + Clock + Sync,
     A: Allocator + Copy + Send + Sync,
     Q: BlockSearch<Alloc = A, Scratch: Send> + Sync,
-    F: Files,
+    F: Files<Alloc = A>,
     W: Sink,
     E: Sink,
 >(
@@ -181,7 +181,7 @@ fn all_files<
     R: Threads + Wait + Clock + Sync,
     A: Allocator + Copy + Send + Sync,
     Q: BlockSearch<Alloc = A, Scratch: Send> + Sync,
-    F: Files,
+    F: Files<Alloc = A>,
     W: Sink,
     E: Sink,
 >(
@@ -211,12 +211,22 @@ fn all_files<
     unreachable!()
 }
 
+/// The most bytes that are taken at once of a file that is in memory already: all, but where what was read may be
+/// enough no more than a block, which is searched before more is looked at.
+fn most_taken(setup: &Setup) -> usize {
+    if is_endless(setup.format) {
+        usize::MAX
+    } else {
+        setup.block as usize
+    }
+}
+
 /// Takes all files with a reader of their own, and answers the status.
 fn search_files<
     R: Threads + Wait + Clock + Sync,
     A: Allocator + Copy + Send + Sync,
     Q: BlockSearch<Alloc = A, Scratch: Send> + Sync,
-    F: Files,
+    F: Files<Alloc = A>,
     W: Sink,
     E: Sink,
 >(
@@ -234,7 +244,8 @@ fn search_files<
         aim.out (W.stream out.new) aim.told (E.stream faults.new))
         (BreaksOffBehind aim (F.past files.new).given (W.stream out.new) (E.stream faults.new)) }
 {
-    let mut reader = FileReader::new(engine.alloc, engine.setup.block);
+    let most = most_taken(&engine.setup);
+    let mut reader = FileReader::new(engine.alloc, engine.setup.block, most);
     all_files(rt, engine, files, &mut reader, out, faults)?;
     let status = engine.finish(rt, out)?;
     Ok(status)
@@ -261,7 +272,7 @@ pub fn run<
     R: Threads + Wait + Clock + Sync,
     A: Allocator + Copy + Send + Sync,
     Q: BlockSearch<Alloc = A, Scratch: Send> + Sync,
-    F: Files,
+    F: Files<Alloc = A>,
     W: Sink,
     E: Sink,
 >(

@@ -40,7 +40,7 @@ use std::time::Clock;
 pub fn run<
     R: Threads + Wait + Clock + Sync,
     A: Allocator + Copy + Send + Sync,
-    F: Files,
+    F: Files<Alloc = A>,
     W: Sink,
     E: Sink,
     G: Gate + Sync,

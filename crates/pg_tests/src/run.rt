@@ -31,6 +31,8 @@ struct Case<'a> {
     file: &'a [u8],
     ending: Ending,
     read_limit: usize,
+    /// Whether files are in memory already, and taken as they are.
+    is_buffered: bool,
     block: u32,
     workers: u32,
     /// Whether no names are listed behind the file.
@@ -56,6 +58,7 @@ impl<'a> Case<'a> {
             file: FILE,
             ending: Ending::Ends,
             read_limit: 100,
+            is_buffered: false,
             block: 1,
             workers: 0,
             is_alone: true,
@@ -114,6 +117,12 @@ impl<'a> Case<'a> {
         self.read_limit = read_limit;
         self
     }
+
+    /// Files that are in memory already.
+    fn buffered(mut self) -> Case<'a> {
+        self.is_buffered = true;
+        self
+    }
 }
 
 /// The letters of what is asked for: `E` expressions or `F` fixed strings, `f` from a file; and the options.
@@ -170,23 +179,37 @@ fn operands_of(rt: &impl Abort, alloc: Global, is_alone: bool) -> Vec<String> {
 }
 
 /// The file, listed in front of names that give none and the file `h`, a line of `b`, unless it is alone.
-fn list<'t>(rt: &impl Abort, alloc: Global, tree: &'t MemTree, case: Case<'_>) -> MemFiles<'t>
+fn list<'t, A: Allocator + Copy>(
+    rt: &impl Abort,
+    alloc: Global,
+    heap: A,
+    tree: &'t MemTree,
+    case: Case<'_>,
+) -> MemFiles<'t, A>
     ensures { (result.walk.asked.items ≡ []) × (result.done ≡ false) }
 {
     let operands = operands_of(rt, alloc, case.is_alone);
-    let mut files = OperandFiles::new(alloc, tree, store_of(rt, alloc, case));
+    let mut files = OperandFiles::new(alloc, tree, store_of(rt, alloc, heap, case));
     let scope = Scope::all(alloc, true);
     let listed = files.list(alloc, tree, &operands, scope, true, String::new(alloc));
     listed.expect(rt, "memory");
     files
 }
 
-/// The bytes of the file and of `h`.
-fn store_of(rt: &impl Abort, alloc: Global, case: Case<'_>) -> MemStore {
+/// The bytes of the file and of `h`, which are in memory of `heap` where they are to be in memory already.
+fn store_of<A: Allocator + Copy>(
+    rt: &impl Abort,
+    alloc: Global,
+    heap: A,
+    case: Case<'_>,
+) -> MemStore<A> {
     let mut store = MemStore::new(alloc);
     store.add("f", case.file, case.ending).expect(rt, "memory");
     store.add("h", b"b\n", Ending::Ends).expect(rt, "memory");
     store.set_read_limit(case.read_limit);
+    if case.is_buffered {
+        store.buffer(heap);
+    }
     store
 }
 
@@ -195,7 +218,7 @@ fn answer<R: Threads + Wait + Clock + Sync, A: Allocator + Copy + Send + Sync>(
     rt: &R,
     heap: A,
     case: Case<'_>,
-    files: &mut MemFiles<'_>,
+    files: &mut MemFiles<'_, A>,
     out: &mut MemSink,
     faults: &mut MemSink,
 ) -> Result<u8, SearchFault>
@@ -240,7 +263,7 @@ fn run_case<R: Abort + Threads + Wait + Clock + Sync, A: Allocator + Copy + Send
     case: Case<'_>,
 ) -> Outcome {
     let tree = tree_of(rt, alloc);
-    let mut files = list(rt, alloc, &tree, case);
+    let mut files = list(rt, alloc, heap, &tree, case);
     let mut out = MemSink::new(alloc, case.room).expect(rt, "memory");
     out.set_write_limit(case.write_limit);
     let mut faults = MemSink::new(alloc, 100).expect(rt, "memory");
@@ -321,15 +344,17 @@ impl<'a> Row<'a> {
         }
     }
 
-    /// Blocks and reads of some sizes, by one thread, and blocks by three.
+    /// Blocks and reads of some sizes, by one thread, and blocks by three, also of a file that is in memory already.
     fn push_blocks(self, rt: &impl Abort, cases: &mut Vec<Expected<'a>>) {
         for block in 1..=64u32 {
             for read_limit in [1, 2, 5, 100] {
                 let case = self.case().cut(block, read_limit);
                 push(rt, cases, self.expected(case, ""));
             }
-            let case = self.case().cut(block, 100).spread(2);
-            push(rt, cases, self.expected(case, ""));
+            let case = self.case().cut(block, 100);
+            for case in [case.spread(2), case.buffered(), case.buffered().spread(2)] {
+                push(rt, cases, self.expected(case, ""));
+            }
         }
     }
 
@@ -349,13 +374,15 @@ impl<'a> Row<'a> {
         }
     }
 
-    /// Reading fails behind the file, in blocks and reads of some sizes, by one thread and by three.
+    /// Reading fails behind the file, in blocks and reads of some sizes, by one thread and by three, also where its bytes
+    /// are in memory already.
     fn push_reads(self, rt: &impl Abort, cases: &mut Vec<Expected<'a>>) {
         for block in 1..=10u32 {
             for (read_limit, workers) in [(1, 0), (2, 0), (1, 2), (2, 2)] {
-                let case = self.case().broken().cut(block, read_limit);
-                let told = "pargrep: f: read failed\n";
-                push(rt, cases, self.expected(case.spread(workers), told));
+                let case = self.case().broken().cut(block, read_limit).spread(workers);
+                for case in [case, case.buffered()] {
+                    push(rt, cases, self.expected(case, "pargrep: f: read failed\n"));
+                }
             }
         }
     }
@@ -577,7 +604,7 @@ Eo [a-c]+ -n---- 6 1:abc/3:b/1:b/
 Eov b ------ 0 ";
 
 /// Each request for memory of a run that ends as a row says is refused in turn, by one thread and by three, of which
-/// each may make the one that is refused.
+/// each may make the one that is refused, and where files are in memory already.
 fn assert_refused<R: Abort + Threads + Wait + Clock + Sync>(
     rt: &R,
     alloc: Global,
@@ -596,8 +623,9 @@ fn assert_refused<R: Abort + Threads + Wait + Clock + Sync>(
     };
     let written = assert_refusals(rt, alloc, whole);
     assert!(rt; early <= written, "{row}");
-    let case = case.spread(2);
-    assert_refusals(rt, alloc, Expected { case, ..whole });
+    for case in [case.spread(2), case.buffered(), case.buffered().spread(2)] {
+        assert_refusals(rt, alloc, Expected { case, ..whole });
+    }
 }
 
 /// Each request for memory of a run is refused in turn, as a row of `REFUSED` says.

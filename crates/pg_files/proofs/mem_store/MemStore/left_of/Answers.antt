@@ -18,7 +18,7 @@ left_at files given place at file left which within is same =
     (ap (option_map (λ f. behind at f.1)) (slice_get-map stored files place ∙ ap (option_map stored) here)))
 
 pub returns-then-at-bytes-clause-left : goal.returns-then-at-bytes-clause-left
-returns-then-at-bytes-clause-left c =
+returns-then-at-bytes-clause-left g c =
     let bytes = c.as_slice-bytes.result.now in
     let at = c.args.at in
     let all : take (length bytes - at) (drop at bytes) ≡ drop at bytes =
@@ -28,7 +28,7 @@ returns-then-at-bytes-clause-left c =
     (all ∙ ap (drop at) c.as_slice-bytes.ensures.value)
 
 pub returns-else-at-bytes-clause-left : goal.returns-else-at-bytes-clause-left
-returns-else-at-bytes-clause-left c =
+returns-else-at-bytes-clause-left g c =
     let bytes = c.as_slice-bytes.result.now in
     let at = c.args.at in
     left_at c.args.files.now c.args.place c.in_ok-place.field-0 at c.in_ok-file.file.now [] c.in_ok-place.was

@@ -3,10 +3,10 @@ use Rattle.pg_files.specs.MemStore.{stored}
 use Rattle.pg_files.proofs.mem_store.MemStore.new.Goals as goal
 
 pub invariant_of-result : goal.invariant_of-result
-invariant_of-result c = record {
+invariant_of-result g c = record {
   some_bytes = omega arith;
   is_open = λ place e. absurd (cc);
 }
 
 pub returns-clause-files : goal.returns-clause-files
-returns-clause-files c = ap (map stored) c.new.ensures.items
+returns-clause-files g c = ap (map stored) c.new.ensures.items

@@ -8,7 +8,7 @@ use Rattle.pg_files.specs.MemStore.{stored, file_at}
 use Rattle.pg_files.proofs.mem_store.MemStore.place_of.Goals as goal
 
 pub returns-then-eq-clause-place : goal.returns-then-eq-clause-place
-returns-then-eq-clause-place c =
+returns-then-eq-clause-place g c =
     let items = c.args.self.now.files.items in
     let path = c.args.path.now in
     let item = c.file-item.result in
