@@ -5,7 +5,7 @@ use crate::fixtures::PATIENCE;
 use crate::runs::{Outcome, operand, run_over, setup, sink, tree_of};
 use pg_base::MemSink;
 use pg_files::{Ending, MemStore, OpenFault, OperandFiles, ReadFault, Store};
-use pg_search::{Gate, RunFault, SearchFault, Setup};
+use pg_search::{FreeGate, Gate, RunFault, SearchFault, Setup};
 use pg_walk::{MemTree, Scope};
 use std::alloc::Global;
 use std::process::Abort;
@@ -55,18 +55,16 @@ impl<'n> Store for Counted<'n> {
     }
 }
 
-/// The file of a case, of which a read gives six bytes.
+/// The file of a store.
 fn file_of<'n, 't>(
     rt: &impl Abort,
     alloc: Global,
     tree: &'t MemTree,
-    case: &Case,
-    reads: &'n AtomicU64,
+    store: Counted<'n>,
 ) -> OperandFiles<'t, MemTree, Counted<'n>>
     ensures { (result.walk.asked.items ≡ []) × (result.done ≡ false) }
 {
     let operands = [operand(rt, alloc)];
-    let store = store_of(rt, alloc, case, reads);
     let mut files = OperandFiles::new(alloc, tree, store);
     let scope = Scope::all(alloc, true);
     let listed = files.list(alloc, tree, &operands, scope, true, String::new(alloc));
@@ -74,7 +72,7 @@ fn file_of<'n, 't>(
     files
 }
 
-/// The bytes of that file.
+/// The file of a case, of which a read gives six bytes.
 fn store_of<'n>(rt: &impl Abort, alloc: Global, case: &Case, reads: &'n AtomicU64) -> Counted<'n> {
     let mut inner = MemStore::new(alloc);
     inner.add("f", case.file, case.ending).expect(rt, "memory");
@@ -204,7 +202,8 @@ fn reads_on<R: Abort + Threads + Wait + Clock + Sync>(rt: &R, alloc: Global, cas
         given_up: AtomicU64::new(0),
     };
     let tree = tree_of(rt, alloc);
-    let mut files = file_of(rt, alloc, &tree, case, &reads);
+    let store = store_of(rt, alloc, case, &reads);
+    let mut files = file_of(rt, alloc, &tree, store);
     let mut out = sink(rt, alloc);
     let found = run_over(rt, alloc, setup_of(case), &mut files, &mut out, &gate);
     is_of(case, &found, &out) && gate.given_up.load(Ordering::SeqCst) == case.given_up
@@ -221,6 +220,32 @@ fn setup_of(case: &Case) -> Setup {
 /// Whether a run answers, writes and tells what is expected.
 fn is_of(case: &Case, found: &Outcome, out: &MemSink) -> bool {
     found.status == case.status && out.bytes() == case.output && found.told.bytes() == case.told
+}
+
+/// How often the first file is read by a run that shows its lines, where it is in memory already or not.
+fn reads_of<R: Abort + Threads + Wait + Clock + Sync>(
+    rt: &R,
+    alloc: Global,
+    is_buffered: bool,
+) -> u64 {
+    let reads = AtomicU64::new(0);
+    let tree = tree_of(rt, alloc);
+    let mut store = store_of(rt, alloc, &CASES[0], &reads);
+    if is_buffered {
+        store.inner.buffer(alloc);
+    }
+    let mut files = file_of(rt, alloc, &tree, store);
+    let mut out = sink(rt, alloc);
+    let found = run_over(rt, alloc, setup(0, 1), &mut files, &mut out, &FreeGate);
+    assert!(rt; is_of(&CASES[0], &found, &out));
+    reads.load(Ordering::SeqCst)
+}
+
+/// Of 14 bytes three reads give some, and one more finds their end.
+#[test]
+fn a_file_in_memory_is_taken_at_once(rt: HostRuntime) {
+    assert!(rt; reads_of(&rt, rt.alloc(), false) == 4);
+    assert!(rt; reads_of(&rt, rt.alloc(), true) == 1);
 }
 
 #[test]
