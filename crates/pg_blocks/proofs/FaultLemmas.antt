@@ -1,5 +1,5 @@
 -- Why a piece isn't taken, and what a file's numbers are then.
-use Rattle.std.proofs.Common.{◌≡◌, ℕ, ◌+◌, ◌-◌, ◌<◌, ◌≤◌, ◌^◌, ◌↔◌, List, length, take, drop, length-drop, arith, subst}
+use Rattle.std.proofs.Common.{◌≡◌, ℕ, ◌+◌, ◌-◌, ◌<◌, ◌≤◌, ◌^◌, ◌↔◌, List, length, take, drop, length-drop, arith}
 use Rattle.std.proofs.Common.{Result, Ok, Err}
 use Rattle.std.proofs.lemmas.List.{length-take-le}
 use Rattle.std.specs.Prelude.{IsErrOf, IsErrAnd}
@@ -41,10 +41,6 @@ fault_told {T} {U} {P} {fault} (Err x) e h told = (
 pub none_told : {T U P : Type 0} {x : T} {fault : CutFault} (r : Result U CutFault)
     → ◌≡◌ {A = Result T CutFault} (Ok x) (Err fault) ↔ P → (IsErrOf r fault → ⊥) → IsErrOf r fault ↔ P
 none_told r told never = (λ is. absurd (never is), λ p. absurd (taken_not_refused (told.1 p)))
-
--- what is told of bytes is told of the same ones
-pub told_of : {R : Type 0} {xs ys : List ℕ} (Q : List ℕ → Type 0) → xs ≡ ys → R ↔ Q xs → R ↔ Q ys
-told_of {R} Q e h = subst (λ zs. R ↔ Q zs) e h
 
 -- where the file would be too long
 pub file_over : {total past size count : ℕ} → total ≡ past → size ≡ count → 2 ^ 62 - total < count

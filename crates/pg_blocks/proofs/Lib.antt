@@ -12,5 +12,6 @@ pub mod CutterLemmas
 pub mod BufferLemmas
 pub mod RoomLemmas
 pub mod FaultLemmas
+pub mod FeedLemmas
 pub mod Examples
 pub mod WithinLemmas

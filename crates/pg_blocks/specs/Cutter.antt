@@ -1,12 +1,14 @@
 -- What a cutter was fed and what it has handed out.
-use Rattle.std.specs.Prelude.{◌≡◌, ℕ, ◌+◌, ◌<◌, ◌≤◌, ◌^◌, false, Option, Some, None, List, [], ◌∷◌, ◌++◌, length, take}
-use Rattle.std.specs.Prelude.{drop}
+use Rattle.std.specs.Prelude.{◌≡◌, ℕ, ◌+◌, ◌<◌, ◌≤◌, ◌^◌, ◌↔◌, false, Option, Some, None, List, [], ◌∷◌, ◌++◌, length}
+use Rattle.std.specs.Prelude.{take, drop, Result, OnOk, OnErr, IsErrOf}
 use Rattle.std.specs.List.{Any}
 use Rattle.std.specs.Option.{option_to_list}
 use Rattle.pg_blocks.specs.Lines.{lines, IsLine}
 use Rattle.pg_blocks.specs.Blocks.{BlockData, joined, EndsWith, Cuts, IsCut, CutsBehind, AreNumbered}
 use Rattle.pg_blocks.specs.Long.{has_long, open_from}
 use Rattle.pg_blocks.specs.declared.cutter.Cutter.{Cutter}
+use Rattle.pg_blocks.specs.declared.cutter.CutFault.{CutFault}
+use Rattle.pg_blocks.specs.declared.cutter.CutFault.TheVariants.{LineTooLong, FileTooLong}
 
 -- the terminator, what `new` was given, the bytes fed at Ok one after another, the blocks handed out, and those of them
 -- up to the newest one that was handed out early
@@ -69,6 +71,14 @@ pub record HasLinesLeft (past : CutterPast) (block : BlockData) : Type 0 where
 abbrev pub HasLongLine : CutterPast → Type 0
 HasLongLine past = Any (λ line. past.longest < length line) (lines past.end past.bytes)
 
+-- with this piece the file would be too long
+abbrev pub IsTooLongWith : CutterPast → List ℕ → Type 0
+IsTooLongWith past piece = 2 ^ 62 < length past.bytes + length piece
+
+-- with this piece the file would not, and a line would be
+abbrev pub HasLongLineWith : CutterPast → List ℕ → Type 0
+HasLongLineWith past piece = (length past.bytes + length piece ≤ 2 ^ 62) × HasLongLine (fed past piece)
+
 -- the bytes of the open block
 abbrev pub held : {A : Type 0} → Cutter A → List ℕ
 held cutter = take cutter.filled cutter.rest.items
@@ -109,3 +119,14 @@ waiting cutter = length cutter.ready.items
 pub record KeepsCutter {A : Type 0} (old new : Cutter A) : Type 0 where
   pub stands : (past : CutterPast) → IsCutterAfter old past → IsCutterAfter new past
   pub drained : IsDrained old → IsDrained new
+
+-- why this piece isn't taken is told exactly where it is so
+pub record TellsWhy {T A : Type 0} (cutter : Cutter A) (piece : List ℕ) (result : Result T CutFault) : Type 0 where
+  pub file : (past : CutterPast) → IsCutterAfter cutter past → IsErrOf result FileTooLong ↔ IsTooLongWith past piece
+  pub line : (past : CutterPast) → IsCutterAfter cutter past → IsErrOf result LineTooLong ↔ HasLongLineWith past piece
+
+-- The cutter was fed this piece at Ok, and nothing at Err, where the fault says why.
+pub record FeedsPiece {T A : Type 0} (old new : Cutter A) (piece : List ℕ) (result : Result T CutFault) : Type 0 where
+  pub ok : (past : CutterPast) → IsCutterAfter old past → OnOk result (IsCutterAfter new (fed past piece))
+  pub err : (past : CutterPast) → IsCutterAfter old past → OnErr result (IsCutterAfter new past)
+  pub why : TellsWhy old piece result

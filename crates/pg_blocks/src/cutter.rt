@@ -1,6 +1,6 @@
 //! Cuts a file that comes in pieces into blocks of whole lines.
-ghost use Rattle.std.specs.Prelude.{◌≡◌, ℕ, ◌+◌, ◌-◌, ◌<◌, ◌≤◌, ◌^◌, ◌↔◌, ◌∷◌, ◌++◌, [], IfSome, IfNone, IfOk};
-ghost use Rattle.std.specs.Prelude.{OnOk, OnErr, IsErrOf, Some, None, Option, length, take, drop, if◌then◌else◌};
+ghost use Rattle.std.specs.Prelude.{◌≡◌, ℕ, ◌+◌, ◌-◌, ◌<◌, ◌≤◌, ◌^◌, ◌∷◌, ◌++◌, [], IfSome, IfNone, IfOk};
+ghost use Rattle.std.specs.Prelude.{OnOk, OnErr, Some, None, Option, length, take, drop, if◌then◌else◌};
 ghost use Rattle.pg_blocks.specs.Blocks.{IsFinished, IsUnfinished, Cuts, AreNumbered};
 ghost use Rattle.pg_blocks.specs.Long.{has_long, open_from, CutsOff};
 ghost use Rattle.pg_blocks.specs.declared.cutter.CutFault.TheVariants.{OutOfMemory};
@@ -352,11 +352,10 @@ impl<A: Allocator + Copy> Drop for Cutter<A> {
 impl<A: Allocator + Copy> Cutter<A> {
     ghost use Rattle.std.specs.Borrow.{sem};
     ghost use Rattle.pg_blocks.specs.Cutter.{CutterPast, IsCutterAfter, IsDrained, unfed, fed, handed, HasNoneLeft};
-    ghost use Rattle.pg_blocks.specs.Cutter.{IsNextBlock};
-    ghost use Rattle.pg_blocks.specs.Cutter.{AreAllBlocks, HasLongLine, FitsBehind, waiting, room_of, KeepsCutter};
+    ghost use Rattle.pg_blocks.specs.Cutter.{IsNextBlock, AreAllBlocks, FitsBehind, TellsWhy, FeedsPiece, KeepsCutter};
+    ghost use Rattle.pg_blocks.specs.Cutter.{waiting, room_of};
     ghost use Rattle.pg_blocks.specs.Cutter.{handed_early, HasLinesLeft, HasNoLineLeft};
     ghost use Rattle.pg_blocks.specs.Lending.{LendsRoom};
-    ghost use Rattle.pg_blocks.specs.declared.cutter.CutFault.TheVariants.{LineTooLong, FileTooLong};
 
     /// A cutter for the file of a number, which was fed nothing.
     ///
@@ -392,14 +391,7 @@ impl<A: Allocator + Copy> Cutter<A> {
     /// where a line of the bytes so far would be too long. `OutOfMemory` comes where neither holds
     /// and a request for memory was refused.
     pub fn feed(&mut self, piece: &[u8]) -> Result<(), CutFault>
-        ensures ok { (past : CutterPast) → IsCutterAfter self.old past
-            → OnOk result (IsCutterAfter self.new (fed past piece.now)) }
-        ensures err { (past : CutterPast) → IsCutterAfter self.old past → OnErr result (IsCutterAfter self.new past) }
-        ensures file { (past : CutterPast) → IsCutterAfter self.old past →
-            IsErrOf result FileTooLong ↔ (2 ^ 62 < length past.bytes + length piece.now) }
-        ensures line { (past : CutterPast) → IsCutterAfter self.old past →
-            IsErrOf result LineTooLong
-            ↔ ((length past.bytes + length piece.now ≤ 2 ^ 62) × HasLongLine (fed past piece.now)) }
+        ensures { FeedsPiece self.old self.new piece.now result }
     {
         let line = self.line_behind(piece)?;
         self.write_room(piece)?;
@@ -410,14 +402,7 @@ impl<A: Allocator + Copy> Cutter<A> {
     /// Takes the next bytes of the file as `feed` does, and with them their memory: where no byte of the open block came
     /// yet, they become its beginning, and nothing is copied but what stands behind it.
     pub fn feed_owned(&mut self, piece: Vec<u8, A>) -> Result<(), CutFault>
-        ensures ok { (past : CutterPast) → IsCutterAfter self.old past
-            → OnOk result (IsCutterAfter self.new (fed past piece.items)) }
-        ensures err { (past : CutterPast) → IsCutterAfter self.old past → OnErr result (IsCutterAfter self.new past) }
-        ensures file { (past : CutterPast) → IsCutterAfter self.old past →
-            IsErrOf result FileTooLong ↔ (2 ^ 62 < length past.bytes + length piece.items) }
-        ensures line { (past : CutterPast) → IsCutterAfter self.old past →
-            IsErrOf result LineTooLong
-            ↔ ((length past.bytes + length piece.items ≤ 2 ^ 62) × HasLongLine (fed past piece.items)) }
+        ensures { FeedsPiece self.old self.new piece.items result }
     {
         if self.filled > 0 {
             return self.feed(&piece);
@@ -434,11 +419,7 @@ impl<A: Allocator + Copy> Cutter<A> {
     /// `FileTooLong` and `LineTooLong` as `feed` has them.
     fn line_behind(&self, piece: &[u8]) -> Result<u32, CutFault>
         ensures ok { IfOk result (λ n. FitsBehind self.now piece.now n) }
-        ensures file { (past : CutterPast) → IsCutterAfter self.now past →
-            IsErrOf result FileTooLong ↔ (2 ^ 62 < length past.bytes + length piece.now) }
-        ensures line { (past : CutterPast) → IsCutterAfter self.now past →
-            IsErrOf result LineTooLong
-            ↔ ((length past.bytes + length piece.now ≤ 2 ^ 62) × HasLongLine (fed past piece.now)) }
+        ensures why { TellsWhy self.now piece.now result }
     {
         if piece.len() as u64 > MAX_FILE - self.total {
             return Err(CutFault::FileTooLong);
@@ -542,16 +523,7 @@ impl<A: Allocator + Copy> Cutter<A> {
     /// and a request for memory was refused.
     pub fn fill(&mut self, count: usize) -> Result<(), CutFault>
         requires { count ≤ length (room_of self.old) }
-        ensures ok { (past : CutterPast) → IsCutterAfter self.old past →
-            OnOk result (IsCutterAfter self.new (fed past (take count (room_of self.old)))) }
-        ensures err { (past : CutterPast) → IsCutterAfter self.old past → OnErr result (IsCutterAfter self.new past) }
-        ensures file { (past : CutterPast) → IsCutterAfter self.old past →
-            IsErrOf result FileTooLong
-            ↔ (2 ^ 62 < length past.bytes + length (take count (room_of self.old))) }
-        ensures line { (past : CutterPast) → IsCutterAfter self.old past →
-            IsErrOf result LineTooLong
-            ↔ ((length past.bytes + length (take count (room_of self.old)) ≤ 2 ^ 62)
-            × HasLongLine (fed past (take count (room_of self.old)))) }
+        ensures fed { FeedsPiece self.old self.new (take count (room_of self.old)) result }
         ensures same { OnErr result (room_of self.new ≡ room_of self.old) }
     {
         let line = self.line_behind(&self.rest[self.filled..self.filled + count])?;

@@ -1,12 +1,12 @@
 -- What the reads of an open file come to: for `read_copied`, `read_in_place`, `read`, `finish` and `step`, and for
 -- those who call them.
 use Rattle.std.proofs.Common.{◌≡◌, ◌⊎◌, inl, inr, ℕ, ◌+◌, ◌<◌, ◌^◌, Bool, List, [], ◌∷◌, ◌++◌, length, drop}
-use Rattle.std.proofs.Common.{if◌then◌else◌, refl, sym, ap, ◌∙◌, subst, arith, append_assoc, length-append}
+use Rattle.std.proofs.Common.{if◌then◌else◌, Err, refl, sym, ap, ◌∙◌, subst, arith, append_assoc, length-append}
 use Rattle.std.specs.List.{Any}
 use Rattle.std.proofs.lemmas.List.{append-nil}
 use Rattle.pg_base.specs.Entries.{Ending, Ended, Failed, Left}
 use Rattle.pg_blocks.specs.Lines.{lines}
-use Rattle.pg_blocks.specs.Cutter.{fed as fed_after, IsCutterAfter, CutterPast, HasLongLine}
+use Rattle.pg_blocks.specs.Cutter.{fed as fed_after, IsCutterAfter, CutterPast, FeedsPiece, TellsWhy}
 use Rattle.pg_blocks.specs.declared.cutter.Cutter.{Cutter}
 use Rattle.pg_blocks.specs.declared.cutter.CutFault.{CutFault}
 use Rattle.pg_blocks.specs.declared.cutter.CutFault.TheVariants.{OutOfMemory, LineTooLong, FileTooLong}
@@ -89,13 +89,12 @@ module _ {A : Type 0} {reader : FileReader A} {fed : CutterPast} {lost : List �
       → IsTooLong fed.end fed.longest (gave_bytes piece given)
   is_long piece long = too_long_given fed.end fed.longest piece open_yet long
 
-  long_cause : (piece : List ℕ) (cut : CutFault) → (cut ≡ LineTooLong → HasLongLine (fed_after fed piece))
-      → (cut ≡ FileTooLong → 2 ^ 62 < length fed.bytes + length piece)
+  long_cause : {T : Type 0} (piece : List ℕ) (cut : CutFault) → TellsWhy {T = T} reader.cutter piece (Err cut)
       → CutCause cut fed.end fed.longest (gave_bytes piece given)
-  long_cause piece OutOfMemory line file = tt
-  long_cause piece LineTooLong line file = is_long piece (inl (line refl))
-  long_cause piece FileTooLong line file =
-      is_long piece (inr (omega (arith, file refl, length-append fed.bytes piece)))
+  long_cause piece OutOfMemory why = tt
+  long_cause piece LineTooLong why = is_long piece (inl ((why.line fed h.cut).0 refl).1)
+  long_cause piece FileTooLong why =
+      is_long piece (inr (omega (arith, (why.file fed h.cut).0 refl, length-append fed.bytes piece)))
 
   -- it stands so now, by what was fed of it and what was lost
   fed_more : (reader' : FileReader A) (given' : List FileOutcome) (piece lost' : List ℕ)
@@ -124,31 +123,29 @@ module _ {A : Type 0} {reader : FileReader A} {fed : CutterPast} {lost : List �
       (subst L (sym came) refl)
 
   -- or wasn't
-  piece_refused : (reader' : FileReader A) (piece : List ℕ) (cut : CutFault) → reader'.came ≡ Refused cut
-      → IsCutterAfter reader'.cutter fed → (cut ≡ LineTooLong → HasLongLine (fed_after fed piece))
-      → (cut ≡ FileTooLong → 2 ^ 62 < length fed.bytes + length piece)
+  piece_refused : {T : Type 0} (reader' : FileReader A) (piece : List ℕ) (cut : CutFault) → reader'.came ≡ Refused cut
+      → FeedsPiece {T = T} reader.cutter reader'.cutter piece (Err cut)
       → FedMore reader fed given reader' (gave_bytes piece given)
-  piece_refused reader' piece cut came stands line file =
+  piece_refused reader' piece cut came refused =
       let L : ReadOutcome → Type 0 = λ came. IsLost came fed.end fed.longest (gave_bytes piece given) piece in
-      fed_more reader' (gave_bytes piece given) [] piece (fed_none stands)
+      fed_more reader' (gave_bytes piece given) [] piece (fed_none (refused.err fed h.cut))
       (ap (gave_bytes piece) open_yet
       ∙ (ap (λ xs. File (newest_name given) (xs ++ piece) Left ∷ drop 1 given) (sym (append-nil fed.bytes))
       ∙ ap (λ came. File (newest_name given) ((fed.bytes ++ []) ++ piece) (ending_after came) ∷ drop 1 given)
       (sym came)))
-      (subst L (sym came) (long_cause piece cut line file))
+      (subst L (sym came) (long_cause piece cut refused.why))
 
   -- then nothing of it was
-  none_cut : (reader' : FileReader A) (piece : List ℕ) (cut : CutFault) → reader'.came ≡ Refused cut
-      → IsCutterAfter reader'.cutter fed → (cut ≡ LineTooLong → HasLongLine (fed_after fed piece))
-      → (cut ≡ FileTooLong → 2 ^ 62 < length fed.bytes + length piece)
+  none_cut : {T : Type 0} (reader' : FileReader A) (piece : List ℕ) (cut : CutFault) → reader'.came ≡ Refused cut
+      → FeedsPiece {T = T} reader.cutter reader'.cutter piece (Err cut)
       → HasFed reader' fed piece (gave_bytes piece given)
-  none_cut reader' piece cut came stands line file =
+  none_cut reader' piece cut came refused =
       let L : ReadOutcome → Type 0 = λ came. IsLost came fed.end fed.longest (gave_bytes piece given) piece in
       record {
-        cut = stands;
+        cut = refused.err fed h.cut;
         newest = as_newest (ap (gave_bytes piece) open_yet
             ∙ ap (λ came. File (newest_name given) (fed.bytes ++ piece) (ending_after came) ∷ drop 1 given) (sym came));
-        cause = subst L (sym came) (long_cause piece cut line file);
+        cause = subst L (sym came) (long_cause piece cut refused.why);
       }
 
   -- nothing more came of it
@@ -180,19 +177,13 @@ module _ {A : Type 0} {reader : FileReader A} {fed : CutterPast} {lost : List �
       no_more reader' (gave_end failed given) _ stops (ap (gave_end failed) open_yet) none stands
 
 -- what one read gave and the cutter didn't take is not fed in part
-pub refused_whole : {A : Type 0} {reader reader' : FileReader A} {given given' : List FileOutcome} → reader.came ≡ More
-    → (piece : List ℕ) (cut : CutFault) → given' ≡ gave_bytes piece given → reader'.came ≡ Refused cut
-    → FedStays reader reader'
-    → ((fed : CutterPast) → IsCutterAfter reader.cutter fed → cut ≡ LineTooLong → HasLongLine (fed_after fed piece))
-    → ((fed : CutterPast) → IsCutterAfter reader.cutter fed → cut ≡ FileTooLong
-    → 2 ^ 62 < length fed.bytes + length piece)
+pub refused_whole : {A T : Type 0} {reader reader' : FileReader A} {given given' : List FileOutcome}
+    → reader.came ≡ More → (piece : List ℕ) (cut : CutFault) → given' ≡ gave_bytes piece given
+    → reader'.came ≡ Refused cut → FeedsPiece {T = T} reader.cutter reader'.cutter piece (Err cut)
     → FeedsAllOrNone reader given reader' given'
-refused_whole {reader' = reader'} more piece cut is came stays line file = λ fed lost fault h refused.
-    let P : List FileOutcome → Type 0 = λ gs. HasFed reader' fed piece gs in (
-      piece,
-      subst P (sym is) (none_cut h more reader' piece cut came (stays fed h.cut) (line fed h.cut)
-          (file fed h.cut)),
-    )
+refused_whole {reader' = reader'} more piece cut is came refused = λ fed lost fault h _.
+    let P : List FileOutcome → Type 0 = λ gs. HasFed reader' fed piece gs in
+    (piece, subst P (sym is) (none_cut h more reader' piece cut came refused))
 
 -- What is listed, and what was given before.
 
@@ -300,16 +291,13 @@ module _ {A F L : Type 0} {past : F → FilesPast} {list : F → L} {reader read
   }
 
   -- bytes that the cutter doesn't take
-  pub read_refused : (piece : List ℕ) (cut : CutFault) → (past files').given ≡ gave_bytes piece (past files).given
-      → reader'.came ≡ Refused cut → FedStays reader reader'
-      → ((fed : CutterPast) → IsCutterAfter reader.cutter fed → cut ≡ LineTooLong → HasLongLine (fed_after fed piece))
-      → ((fed : CutterPast) → IsCutterAfter reader.cutter fed → cut ≡ FileTooLong
-      → 2 ^ 62 < length fed.bytes + length piece)
+  pub read_refused : {T : Type 0} (piece : List ℕ) (cut : CutFault)
+      → (past files').given ≡ gave_bytes piece (past files).given → reader'.came ≡ Refused cut
+      → FeedsPiece {T = T} reader.cutter reader'.cutter piece (Err cut)
       → HasReadOn past list reader files reader' files'
-  read_refused piece cut is came stays line file = record {
+  read_refused piece cut is came refused = record {
     reads_on = read_by done same _ is (bytes_before piece (past files).given);
     feeds = λ fed lost h.
         let P : List FileOutcome → Type 0 = λ gs. FedMore reader fed (past files).given reader' gs in
-        subst P (sym is) (piece_refused h more reader' piece cut came (stays fed h.cut) (line fed h.cut)
-        (file fed h.cut));
+        subst P (sym is) (piece_refused h more reader' piece cut came refused);
   }

@@ -1,17 +1,12 @@
-use Rattle.std.proofs.Common.{◌≡◌, ◌∙◌, ◌+◌, ◌≤◌, ◌^◌, ℕ, List, length, take, drop, ap, arith, refl}
+use Rattle.std.proofs.Common.{◌≡◌, ◌∙◌, take, drop, ap, arith, refl}
 use Rattle.std.proofs.lemmas.List.{take_all}
-use Rattle.pg_blocks.specs.Cutter.{CutterPast, fed, HasLongLine}
 use Rattle.pg_blocks.proofs.BufferLemmas.{none_held}
 use Rattle.pg_blocks.proofs.RoomLemmas.{held_stays}
-use Rattle.pg_blocks.proofs.FaultLemmas.{told_of}
+use Rattle.pg_blocks.proofs.FeedLemmas.{feeds_behind}
 use Rattle.pg_blocks.proofs.cutter.Cutter.feed_owned.Goals as goal
 
--- a piece with which a line is too long
-abbrev Line : CutterPast → List ℕ → Type 0
-Line past piece = (length past.bytes + length piece ≤ 2 ^ 62) × HasLongLine (fed past piece)
-
-pub returns-clause-line : goal.returns-clause-line
-returns-clause-line g c = λ past s.
+pub returns : goal.returns
+returns g c =
     let self = c.args.self.now in
     let piece = c.args.piece.items in
     let none : self.filled ≡ 0 = omega (arith, c.if-self-gt0.false) in
@@ -19,5 +14,5 @@ returns-clause-line g c = λ past s.
     ap (λ k. take c.len-count.result (drop k piece)) none
     ∙ take_all c.len-count.result piece (omega (arith, c.len-count.ensures, c.args.piece.ok.0)) in
     let same = none_held self.filled piece self.rest.items none in
-    told_of (Line past) all
-    (c.fill.ensures.line past (held_stays self _ past s refl refl refl refl refl refl refl refl same))
+    feeds_behind all (λ past s. held_stays self _ past s refl refl refl refl refl refl refl refl same)
+    c.fill.ensures.fed

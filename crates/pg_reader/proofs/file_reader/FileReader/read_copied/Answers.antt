@@ -1,4 +1,4 @@
-use Rattle.std.proofs.Common.{◌≡◌, ◌∙◌, ℕ, List, ◌++◌, Err, true, false, length, take, ap, sym, refl}
+use Rattle.std.proofs.Common.{◌≡◌, ◌∙◌, ℕ, List, ◌++◌, true, false, length, take, ap, sym, refl}
 use Rattle.std.proofs.Math.Seq.{take-append_seam}
 use Rattle.pg_files.specs.Given.{gave_bytes}
 use Rattle.pg_reader.proofs.GivenLemmas.{read_some, read_none, read_grows}
@@ -27,28 +27,22 @@ pub returns-in-Err-clause-reads : goal.returns-in-Err-clause-reads
 returns-in-Err-clause-reads g c =
     let e = c.in-Ok.ensures in
     let given = (g.F.Files.past c.args.files.now).given in
-    let err = c.in-Err.ensures in
     let whole = written_whole _ c.read.new.into _ (e.size ∙ c.as_mut_slice.ensures.len) in
     read_refused {past = g.F.Files.past} {list = g.F.Files.list} c.requires.reading.more e.done e.same_list
     (take c.in-Ok.len c.deref.result.now) c.in-Err.why
     (e.given.1 ∙ (read_some c.read.new.into c.in-Ok.len given c.if-len-eq0.false
     ∙ ap (λ xs. gave_bytes (take c.in-Ok.len xs) given) (sym (c.deref.ensures.value ∙ whole)))) refl
-    (λ fed stands. err.err fed stands)
-    (λ fed stands is. ((err.line fed stands).0 (ap Err is)).1)
-    (λ fed stands is. (err.file fed stands).0 (ap Err is))
+    c.in-Err.ensures
 
 pub returns-in-Err-clause-refused : goal.returns-in-Err-clause-refused
 returns-in-Err-clause-refused g c =
     let e = c.in-Ok.ensures in
     let given = (g.F.Files.past c.args.files.now).given in
-    let err = c.in-Err.ensures in
     let whole = written_whole _ c.read.new.into _ (e.size ∙ c.as_mut_slice.ensures.len) in
     refused_whole c.requires.reading.more (take c.in-Ok.len c.deref.result.now) c.in-Err.why
     (e.given.1 ∙ (read_some c.read.new.into c.in-Ok.len given c.if-len-eq0.false
     ∙ ap (λ xs. gave_bytes (take c.in-Ok.len xs) given) (sym (c.deref.ensures.value ∙ whole)))) refl
-    (λ fed stands. err.err fed stands)
-    (λ fed stands is. ((err.line fed stands).0 (ap Err is)).1)
-    (λ fed stands is. (err.file fed stands).0 (ap Err is))
+    c.in-Err.ensures
 
 pub returns-in_default-feed-clause-reads : goal.returns-in_default-feed-clause-reads
 returns-in_default-feed-clause-reads g c =

@@ -1,7 +1,8 @@
-use Rattle.std.proofs.Common.{◌≡◌, ◌∙◌, Err, true, false, length, take, ap, sym, refl}
+use Rattle.std.proofs.Common.{◌≡◌, ◌∙◌, true, false, length, take, ap, sym, refl}
 use Rattle.pg_blocks.specs.Cutter.{room_of}
 use Rattle.pg_blocks.specs.Lending.{with_room}
 use Rattle.pg_blocks.proofs.RoomLemmas.{written_room}
+use Rattle.pg_blocks.proofs.FeedLemmas.{feeds_behind}
 use Rattle.pg_files.specs.Given.{gave_bytes}
 use Rattle.pg_reader.proofs.GivenLemmas.{read_some, read_none, read_grows}
 use Rattle.pg_reader.proofs.ReadLemmas.{read_stopped, read_cut, read_refused, read_unread, refused_whole}
@@ -38,15 +39,12 @@ returns-in-Err-clause-reads g c =
     let made = c.make_room.new.self.cutter in
     let fits : length c.read.new.into ≡ length (room_of made) = e.size ∙ ap length c.room.ensures.value in
     let lent = written_room made c.read.new.into fits in
-    let err = c.in-Err.ensures in
     let keeps = c.make_room.ensures.keeps in
     read_refused {past = g.F.Files.past} {list = g.F.Files.list} c.requires.more e.done e.same_list
     (take c.in-Ok.count (room_of (with_room made c.read.new.into))) c.in-Err.fault
     (e.given.1 ∙ read_some c.read.new.into c.in-Ok.count given c.if-count-eq0.false
     ∙ ap (λ xs. gave_bytes (take c.in-Ok.count xs) given) (sym lent.1)) refl
-    (λ fed stands. err.err fed (lent.0.stands fed (keeps.stands fed stands)))
-    (λ fed stands is. ((err.line fed (lent.0.stands fed (keeps.stands fed stands))).0 (ap Err is)).1)
-    (λ fed stands is. (err.file fed (lent.0.stands fed (keeps.stands fed stands))).0 (ap Err is))
+    (feeds_behind refl (λ fed stands. lent.0.stands fed (keeps.stands fed stands)) c.in-Err.ensures.fed)
 
 pub returns-in-Err-clause-refused : goal.returns-in-Err-clause-refused
 returns-in-Err-clause-refused g c =
@@ -55,14 +53,11 @@ returns-in-Err-clause-refused g c =
     let made = c.make_room.new.self.cutter in
     let fits : length c.read.new.into ≡ length (room_of made) = e.size ∙ ap length c.room.ensures.value in
     let lent = written_room made c.read.new.into fits in
-    let err = c.in-Err.ensures in
     let keeps = c.make_room.ensures.keeps in
     refused_whole c.requires.more (take c.in-Ok.count (room_of (with_room made c.read.new.into))) c.in-Err.fault
     (e.given.1 ∙ read_some c.read.new.into c.in-Ok.count given c.if-count-eq0.false
     ∙ ap (λ xs. gave_bytes (take c.in-Ok.count xs) given) (sym lent.1)) refl
-    (λ fed stands. err.err fed (lent.0.stands fed (keeps.stands fed stands)))
-    (λ fed stands is. ((err.line fed (lent.0.stands fed (keeps.stands fed stands))).0 (ap Err is)).1)
-    (λ fed stands is. (err.file fed (lent.0.stands fed (keeps.stands fed stands))).0 (ap Err is))
+    (feeds_behind refl (λ fed stands. lent.0.stands fed (keeps.stands fed stands)) c.in-Err.ensures.fed)
 
 pub returns-in_default-fill-clause-reads : goal.returns-in_default-fill-clause-reads
 returns-in_default-fill-clause-reads g c =
@@ -76,7 +71,7 @@ returns-in_default-fill-clause-reads g c =
     (take c.in-Ok.count (room_of (with_room made c.read.new.into)))
     (e.given.1 ∙ read_some c.read.new.into c.in-Ok.count given c.if-count-eq0.false
     ∙ ap (λ xs. gave_bytes (take c.in-Ok.count xs) given) (sym lent.1)) (c.make_room.ensures.came ∙ c.requires.more)
-    (λ fed stands. c.in_default-fill.ensures.ok fed (lent.0.stands fed (keeps.stands fed stands)))
+    (λ fed stands. c.in_default-fill.ensures.fed.ok fed (lent.0.stands fed (keeps.stands fed stands)))
 
 pub returns-in_default-fill-clause-goes : goal.returns-in_default-fill-clause-goes
 returns-in_default-fill-clause-goes g c = λ more.
