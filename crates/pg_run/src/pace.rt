@@ -19,7 +19,13 @@ const SPREAD_COST: u64 = 2;
 
 /// After so many verdicts in a row that the search is slow, one thread searches alone again: while several search it is
 /// only guessed what one would take, and what else the machine does may have made it slow.
-const SLOW_VERDICTS: u32 = 32;
+const FIRST_SLOW_LIMIT: u32 = 2;
+
+/// Each time when one thread then was slow, too, that limit grows by so much,
+const SLOW_LIMIT_GROWTH: u32 = 4;
+
+/// up to so many verdicts.
+const LAST_SLOW_LIMIT: u32 = 32;
 
 /// What a clock shows, if it can be read.
 pub(crate) fn time<R: Clock>(rt: &R) -> Option<Duration> {
@@ -47,6 +53,8 @@ pub(crate) struct Pace {
     pub(crate) is_slow: bool,
     /// How many verdicts in a row were that it was.
     slow_verdicts: u32,
+    /// After so many of them one thread searches alone again.
+    slow_limit: u32,
 }
 
 impl Pace {
@@ -57,6 +65,7 @@ impl Pace {
             nanos: 0,
             is_slow: false,
             slow_verdicts: 0,
+            slow_limit: FIRST_SLOW_LIMIT,
         }
     }
 
@@ -94,18 +103,25 @@ impl Pace {
                 ..self
             };
         }
-        let is_slow = nanos.saturating_mul(BYTES_A_NANO) > bytes
-            && self.slow_verdicts < SLOW_VERDICTS;
-        let slow_verdicts = if is_slow {
-            self.slow_verdicts.saturating_add(1)
+        self.judged(nanos.saturating_mul(BYTES_A_NANO) > bytes)
+    }
+
+    /// With a verdict.
+    fn judged(self, was_slow: bool) -> Pace {
+        let (slow_verdicts, slow_limit) = if !was_slow {
+            (0, FIRST_SLOW_LIMIT)
+        } else if self.slow_verdicts < self.slow_limit {
+            (self.slow_verdicts.saturating_add(1), self.slow_limit)
         } else {
-            0
+            let limit = self.slow_limit.saturating_mul(SLOW_LIMIT_GROWTH);
+            (0, limit.min(LAST_SLOW_LIMIT))
         };
         Pace {
             bytes: 0,
             nanos: 0,
-            is_slow,
+            is_slow: slow_verdicts > 0,
             slow_verdicts,
+            slow_limit,
         }
     }
 }
