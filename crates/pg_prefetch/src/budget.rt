@@ -13,14 +13,14 @@ pub(crate) struct Level {
     wakes_below: usize,
 }
 
-/// For entries of the directories that the walk is inside of.
+/// For entries of the directory that the walk is in, and for what lies in it.
 pub(crate) const INSIDE: Level = Level {
     most: 3_145_728,
     wakes_below: 2_359_296,
 };
 
-/// For entries of directories that the walk will come to. It leaves room for the others: what is held for later is
-/// held until the walk has come there.
+/// For all entries that the walk comes to later. It leaves room for the others: what is held for later is held until
+/// the walk has come there.
 pub(crate) const AHEAD: Level = Level {
     most: 1_572_864,
     wakes_below: 1_048_576,

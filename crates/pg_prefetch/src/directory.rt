@@ -125,6 +125,15 @@ impl Directory {
         self.path.as_str()
     }
 
+    /// Whether it is another directory, or lies in that.
+    pub(crate) fn is_within(&self, other: &Directory) -> bool {
+        let around = other.path.as_bytes();
+        match self.path.as_bytes().strip_prefix(around) {
+            Some(below) => below.is_empty() || below[0] == b'/' || around.ends_with(b"/"),
+            None => false,
+        }
+    }
+
     /// A copy of what it holds.
     ///
     /// # Errors

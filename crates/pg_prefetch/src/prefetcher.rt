@@ -151,7 +151,7 @@ impl Prefetcher {
             return;
         };
         shared.wake_for_room();
-        if shared.may_wake() && self.inside.iter().any(|it| it.is_worth_waking()) {
+        if shared.may_wake() && self.inside.last().is_some_and(|it| it.is_worth_waking()) {
             shared.wake(false);
         }
     }

@@ -65,15 +65,25 @@ fn place_behind(directories: &[Arc<Directory>], path: &str) -> usize {
         .unwrap_or(directories.len())
 }
 
-/// The last of some directories alone.
-fn innermost(directories: &[Arc<Directory>]) -> &[Arc<Directory>] {
-    &directories[directories.len().saturating_sub(1)..]
+/// The last of some directories of whose entries one may be looked at.
+fn last_open(directories: &[Arc<Directory>]) -> Option<&Arc<Directory>> {
+    directories.iter().rev().find(|it| it.has_next())
 }
 
-/// The last of some directories of whose entries one may be looked at.
-fn last_open(directories: &[Arc<Directory>]) -> Option<Arc<Directory>> {
-    let found = directories.iter().rev().find(|it| it.has_next())?;
-    Arc::try_clone(found).ok()
+/// Of the directories that a walk is inside of and of those that it will come to, the one with the entry that it comes
+/// to first of all that may be looked at. What lies in a directory that is listed comes before those entries of the
+/// directory around it that weren't looked at.
+fn first_open<'d>(
+    inside: &'d [Arc<Directory>],
+    ahead: &'d [Arc<Directory>],
+) -> Option<&'d Arc<Directory>> {
+    let Some(around) = last_open(inside) else {
+        return last_open(ahead);
+    };
+    match last_open(ahead) {
+        Some(listed) if listed.is_within(around) => Some(listed),
+        _ => Some(around),
+    }
 }
 
 impl Shared {
@@ -147,23 +157,21 @@ impl Shared {
         None
     }
 
-    /// A directory of whose entries one may be looked at: the one that the walk is in, else the next that it will come
-    /// to, else one further up. There is none where too much is held.
+    /// The directory with the entry that the walk comes to first of all that may be looked at. There is none where too
+    /// much is held.
     pub(crate) fn next_directory<R: Wait>(&self, rt: &R) -> Option<Arc<Directory>> {
         if !self.budget.has_room(&INSIDE) {
             return None;
         }
-        let innermost = last_open(innermost(&self.inside.lock(rt)));
-        if innermost.is_some() {
-            return innermost;
+        let inside = self.inside.lock(rt);
+        let ahead = self.ahead.lock(rt);
+        let found = first_open(&inside, &ahead)?;
+        let is_near = found.is_within(inside.last()?);
+        if is_near || self.budget.has_room(&AHEAD) {
+            Arc::try_clone(found).ok()
+        } else {
+            None
         }
-        if self.budget.has_room(&AHEAD) {
-            let ahead = last_open(&self.ahead.lock(rt));
-            if ahead.is_some() {
-                return ahead;
-            }
-        }
-        last_open(&self.inside.lock(rt))
     }
 
     /// Whether a thread sleeps that would find room to look at more.
