@@ -2,17 +2,20 @@
 
 use std::time::{Clock, Duration};
 
-/// How many bytes are measured before a verdict.
+/// How many bytes are measured before a verdict,
 const SAMPLE_BYTES: u64 = 1_048_576;
 
-/// Where so many bytes took long, the verdict comes at once. That fewer did says nothing: a thread may be held up.
-const MIN_SAMPLE_BYTES: u64 = 65_536;
-
-/// How many nanoseconds count as long.
-const MIN_SAMPLE_NANOS: u64 = 1_000_000;
+/// unless they take so many nanoseconds.
+const SAMPLE_NANOS: u64 = 1_000_000;
 
 /// A search that takes more than a nanosecond a byte is slow: a faster one was seen to gain nothing by several threads.
-const BYTES_A_NANO: u64 = 1;
+const NANOS_A_BYTE: u64 = 1;
+
+/// No search counts for more nanoseconds a byte. One that takes far longer says little: its thread may have been held up.
+const MOST_NANOS_A_BYTE: u64 = 8;
+
+/// So many nanoseconds of each search aren't counted: they don't come of its bytes.
+const NANOS_A_SEARCH: u64 = 2_000;
 
 /// By several threads a byte was seen to take up to about so many times the processor time that it takes by one.
 const SPREAD_COST: u64 = 2;
@@ -47,7 +50,7 @@ fn nanos_since<R: Clock>(rt: &R, begun: Duration) -> Option<u64> {
 pub(crate) struct Pace {
     /// How many bytes were searched since the last verdict.
     bytes: u64,
-    /// It took so many nanoseconds, of all threads together, as if one had searched alone.
+    /// So many nanoseconds of that count, of all threads together, as if one had searched alone.
     nanos: u64,
     /// The last verdict: whether the search was slow. Until there is one it isn't.
     pub(crate) is_slow: bool,
@@ -94,16 +97,18 @@ impl Pace {
 
     /// With a search of so many bytes, which took so many nanoseconds.
     fn with(self, bytes: u64, nanos: u64) -> Pace {
+        let most = bytes.saturating_mul(MOST_NANOS_A_BYTE);
+        let counted = nanos.saturating_sub(NANOS_A_SEARCH).min(most);
         let bytes = self.bytes.saturating_add(bytes);
-        let nanos = self.nanos.saturating_add(nanos);
-        if bytes < SAMPLE_BYTES && (bytes < MIN_SAMPLE_BYTES || nanos < MIN_SAMPLE_NANOS) {
+        let nanos = self.nanos.saturating_add(counted);
+        if bytes < SAMPLE_BYTES && nanos < SAMPLE_NANOS {
             return Pace {
                 bytes,
                 nanos,
                 ..self
             };
         }
-        self.judged(nanos.saturating_mul(BYTES_A_NANO) > bytes)
+        self.judged(nanos > bytes.saturating_mul(NANOS_A_BYTE))
     }
 
     /// With a verdict.
