@@ -19,6 +19,9 @@ const WORTH_WAKING: usize = 8;
 /// For a directory of no fewer entries all threads wake.
 const WORTH_WAKING_ALL: usize = 32;
 
+/// A thread that looks at an entry looks at so many in a row at most, before it asks which comes next.
+const AT_ONCE: usize = 4;
+
 /// How many bytes between what different threads write keep them from sharing a line of the processor's cache.
 const LINE: usize = 64;
 
@@ -206,23 +209,41 @@ impl Directory {
         self.next_entry().is_some()
     }
 
-    /// Looks at the next entry that may be looked at, if there is one.
-    pub(crate) fn prefetch_next<R: Files + Wait + Copy + Drop>(
+    /// Looks at the next entries that may be looked at, a few at most, up to one whose own entries come before those
+    /// behind it.
+    pub(crate) fn prefetch_some<R: Files + Wait + Copy + Drop>(
         &self,
         rt: R,
         alloc: Global,
         shared: &Shared,
     ) {
-        let Some(entry) = self.next_entry() else {
-            return;
-        };
-        if self.claim(entry) {
-            let found = self.look_at(rt, alloc, shared, entry);
-            if let Some(found) = &found {
-                found.list_ahead(rt, alloc, shared);
+        for _ in 0..AT_ONCE {
+            if !shared.has_room() || !self.prefetch_next(rt, alloc, shared) {
+                return;
             }
-            self.put(&rt, entry, found);
         }
+    }
+
+    /// Looks at the next entry that may be looked at, if there is one. Answers whether there was, and no directory was
+    /// listed.
+    fn prefetch_next<R: Files + Wait + Copy + Drop>(
+        &self,
+        rt: R,
+        alloc: Global,
+        shared: &Shared,
+    ) -> bool {
+        let Some(entry) = self.next_entry() else {
+            return false;
+        };
+        if !self.claim(entry) {
+            return true;
+        }
+        let found = self.look_at(rt, alloc, shared, entry);
+        let is_listed = found
+            .as_ref()
+            .is_some_and(|it| it.list_ahead(rt, alloc, shared));
+        self.put(&rt, entry, found);
+        !is_listed
     }
 
     fn look_at<R: Files + Copy + Drop>(

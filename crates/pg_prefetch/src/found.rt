@@ -86,23 +86,26 @@ impl Found {
         })
     }
 
-    /// Lists the entry, if it is a directory that is to be visited, so that its entries are looked at ahead, too.
+    /// Lists the entry, if it is a directory that is to be visited, so that its entries are looked at ahead, too. Answers
+    /// whether they will be.
     pub(crate) fn list_ahead<R: Files + Wait + Copy + Drop>(
         &self,
         rt: R,
         alloc: Global,
         shared: &Shared,
-    ) {
+    ) -> bool {
         let is_directory = self.kind == FileKind::Directory;
         if !is_directory || !shared.scope.keeps_entry(self.path.as_str(), self.kind) {
-            return;
+            return false;
         }
         let Ok(listing) = list(&DiskTree::new(&rt), alloc, self.path.as_str()) else {
-            return;
+            return false;
         };
-        if let Ok(directory) = Directory::new(alloc, self.path.as_str(), listing) {
-            shared.add(&rt, alloc, directory);
-        }
+        let Ok(directory) = Directory::new(alloc, self.path.as_str(), listing) else {
+            return false;
+        };
+        shared.add(&rt, alloc, directory);
+        true
     }
 
     /// What stands at a path, where a link is followed or not, if this was found so there.

@@ -34,7 +34,7 @@ impl<R: Files + Wait + Copy + Drop> PrefetchHelper<R> {
             let Some(directory) = self.shared.next_directory(&self.rt) else {
                 return;
             };
-            directory.prefetch_next(self.rt, self.alloc, &self.shared);
+            directory.prefetch_some(self.rt, self.alloc, &self.shared);
         }
     }
 }

@@ -57,12 +57,15 @@ fn comes_before(one: &str, other: &str) -> bool {
     one.len() < other.len()
 }
 
-/// Where the first of some directories stands that a walk comes to before a path; their number, if there is none.
+/// Where the first of some directories stands that a walk comes to before a path; their number, if there is none. They
+/// stand in the order of the walk, the next one last, and most paths belong near that.
 fn place_behind(directories: &[Arc<Directory>], path: &str) -> usize {
-    directories
+    let sooner = directories
         .iter()
-        .position(|it| comes_before(it.path(), path))
-        .unwrap_or(directories.len())
+        .rev()
+        .position(|it| !comes_before(it.path(), path))
+        .unwrap_or(directories.len());
+    directories.len().saturating_sub(sooner)
 }
 
 /// The last of some directories of whose entries one may be looked at.
@@ -160,7 +163,7 @@ impl Shared {
     /// The directory with the entry that the walk comes to first of all that may be looked at. There is none where too
     /// much is held.
     pub(crate) fn next_directory<R: Wait>(&self, rt: &R) -> Option<Arc<Directory>> {
-        if !self.budget.has_room(&INSIDE) {
+        if !self.has_room() {
             return None;
         }
         let inside = self.inside.lock(rt);
@@ -174,9 +177,14 @@ impl Shared {
         }
     }
 
+    /// Whether entries of the directory that the walk is in may be looked at.
+    pub(crate) fn has_room(&self) -> bool {
+        self.budget.has_room(&INSIDE)
+    }
+
     /// Whether a thread sleeps that would find room to look at more.
     pub(crate) fn may_wake(&self) -> bool {
-        self.asleep.load(Ordering::SeqCst) > 0 && self.budget.has_room(&INSIDE)
+        self.asleep.load(Ordering::SeqCst) > 0 && self.has_room()
     }
 
     /// Wakes the threads that sleep until less is held, once that is so.
