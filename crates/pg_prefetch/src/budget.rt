@@ -15,15 +15,15 @@ pub(crate) struct Level {
 
 /// For entries of the directory that the walk is in, and for what lies in it.
 pub(crate) const INSIDE: Level = Level {
-    most: 3_145_728,
-    wakes_below: 2_359_296,
+    most: 4_194_304,
+    wakes_below: 3_145_728,
 };
 
 /// For all entries that the walk comes to later. It leaves room for the others: what is held for later is held until
 /// the walk has come there.
 pub(crate) const AHEAD: Level = Level {
-    most: 1_572_864,
-    wakes_below: 1_048_576,
+    most: 3_145_728,
+    wakes_below: 2_097_152,
 };
 
 /// Counts the bytes of the files that are held.

@@ -68,6 +68,19 @@ fn place_behind(directories: &[Arc<Directory>], path: &str) -> usize {
     directories.len().saturating_sub(sooner)
 }
 
+/// Gives those of some directories up that a walk comes to before a path.
+fn pass_by(directories: &mut Vec<Arc<Directory>>, path: &str) {
+    for _ in 0..directories.len() {
+        if !directories
+            .last()
+            .is_some_and(|it| comes_before(it.path(), path))
+        {
+            return;
+        }
+        directories.pop();
+    }
+}
+
 /// The last of some directories of whose entries one may be looked at.
 fn last_open(directories: &[Arc<Directory>]) -> Option<&Arc<Directory>> {
     directories.iter().rev().find(|it| it.has_next())
@@ -102,15 +115,22 @@ impl Shared {
         }
     }
 
-    /// The walk goes into a directory. Without memory for it its entries aren't looked at ahead.
+    /// The walk goes into a directory. Those that it has passed by are given up, and so is another listing of this one.
+    /// Without memory for it its entries aren't looked at ahead.
     pub(crate) fn enter<R: Wait>(&self, rt: &R, alloc: Global, directory: Arc<Directory>) {
         let is_large = directory.is_large();
         let is_worth_waking = directory.is_worth_waking();
         let mut inside = self.inside.lock(rt);
+        let mut ahead = self.ahead.lock(rt);
         if inside.is_empty() {
-            *self.ahead.lock(rt) = Vec::new(alloc);
+            *ahead = Vec::new(alloc);
+        }
+        pass_by(&mut ahead, directory.path());
+        if ahead.last().is_some_and(|it| it.path() == directory.path()) {
+            ahead.pop();
         }
         let _ = inside.push(directory);
+        drop(ahead);
         drop(inside);
         self.signal.fetch_add(1, Ordering::SeqCst);
         if is_worth_waking {
@@ -123,12 +143,19 @@ impl Shared {
         self.inside.lock(rt).pop();
     }
 
-    /// Adds a directory that the walk will come to. If there are too many, the one that it comes to last is given up.
-    /// Without memory for it its entries aren't looked at ahead.
+    /// Adds a directory that the walk will come to, unless it is there by now. If there are too many, the one that it
+    /// comes to last is given up. Without memory for it its entries aren't looked at ahead.
     pub(crate) fn add<R: Wait>(&self, rt: &R, alloc: Global, directory: Directory) {
         let Ok(directory) = Arc::new(alloc, directory) else {
             return;
         };
+        let inside = self.inside.lock(rt);
+        if inside
+            .last()
+            .is_some_and(|it| !comes_before(it.path(), directory.path()))
+        {
+            return;
+        }
         let mut ahead = self.ahead.lock(rt);
         let place = place_behind(&ahead, directory.path()).min(ahead.len());
         let _ = ahead.insert(place, directory);
@@ -136,6 +163,7 @@ impl Shared {
             ahead.remove(0);
         }
         drop(ahead);
+        drop(inside);
         self.signal.fetch_add(1, Ordering::SeqCst);
         self.wake(false);
     }
@@ -146,12 +174,7 @@ impl Shared {
         ensures { IfSome result (λ directory. string_bytes (arc_value directory).path ≡ path.now) }
     {
         let mut ahead = self.ahead.lock(rt);
-        for _ in 0..ahead.len() {
-            if !ahead.last().is_some_and(|it| comes_before(it.path(), path)) {
-                break;
-            }
-            ahead.pop();
-        }
+        pass_by(&mut ahead, path);
         let directory = ahead.pop()?;
         if directory.path() == path {
             return Some(directory);
