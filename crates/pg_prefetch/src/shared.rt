@@ -120,17 +120,17 @@ impl Shared {
     pub(crate) fn enter<R: Wait>(&self, rt: &R, alloc: Global, directory: Arc<Directory>) {
         let is_large = directory.is_large();
         let is_worth_waking = directory.is_worth_waking();
-        let mut inside = self.inside.lock(rt);
         let mut ahead = self.ahead.lock(rt);
-        if inside.is_empty() {
-            *ahead = Vec::new(alloc);
-        }
         pass_by(&mut ahead, directory.path());
         if ahead.last().is_some_and(|it| it.path() == directory.path()) {
             ahead.pop();
         }
-        let _ = inside.push(directory);
         drop(ahead);
+        let mut inside = self.inside.lock(rt);
+        if inside.is_empty() {
+            *self.ahead.lock(rt) = Vec::new(alloc);
+        }
+        let _ = inside.push(directory);
         drop(inside);
         self.signal.fetch_add(1, Ordering::SeqCst);
         if is_worth_waking {
@@ -143,17 +143,21 @@ impl Shared {
         self.inside.lock(rt).pop();
     }
 
+    /// Whether the walk is in a directory at a path, or behind it.
+    fn is_passed_by<R: Wait>(&self, rt: &R, path: &str) -> bool {
+        let inside = self.inside.lock(rt);
+        inside
+            .last()
+            .is_some_and(|it| !comes_before(it.path(), path))
+    }
+
     /// Adds a directory that the walk will come to, unless it is there by now. If there are too many, the one that it
     /// comes to last is given up. Without memory for it its entries aren't looked at ahead.
     pub(crate) fn add<R: Wait>(&self, rt: &R, alloc: Global, directory: Directory) {
         let Ok(directory) = Arc::new(alloc, directory) else {
             return;
         };
-        let inside = self.inside.lock(rt);
-        if inside
-            .last()
-            .is_some_and(|it| !comes_before(it.path(), directory.path()))
-        {
+        if self.is_passed_by(rt, directory.path()) {
             return;
         }
         let mut ahead = self.ahead.lock(rt);
@@ -163,7 +167,6 @@ impl Shared {
             ahead.remove(0);
         }
         drop(ahead);
-        drop(inside);
         self.signal.fetch_add(1, Ordering::SeqCst);
         self.wake(false);
     }
