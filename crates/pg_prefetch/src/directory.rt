@@ -128,7 +128,7 @@ impl Directory {
         self.path.as_str()
     }
 
-    /// Whether it is another directory, or lies in that.
+    /// Whether it is that other directory, or lies in it.
     pub(crate) fn is_within(&self, other: &Directory) -> bool {
         let around = other.path.as_bytes();
         match self.path.as_bytes().strip_prefix(around) {
