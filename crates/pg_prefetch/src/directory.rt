@@ -132,7 +132,7 @@ impl Directory {
     pub(crate) fn is_within(&self, other: &Directory) -> bool {
         let around = other.path.as_bytes();
         match self.path.as_bytes().strip_prefix(around) {
-            Some(below) => below.is_empty() || below[0] == b'/' || around.ends_with(b"/"),
+            Some(below) => below.is_empty() || below.starts_with(b"/") || around.ends_with(b"/"),
             None => false,
         }
     }

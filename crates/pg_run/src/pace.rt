@@ -2,10 +2,10 @@
 
 use std::time::{Clock, Duration};
 
-/// How many bytes are measured before a verdict,
+/// How many bytes are measured before a verdict, unless they take long.
 const SAMPLE_BYTES: u64 = 1_048_576;
 
-/// unless they take so many nanoseconds.
+/// Once fewer bytes take so many nanoseconds there is a verdict, too.
 const SAMPLE_NANOS: u64 = 1_000_000;
 
 /// A search that takes more than a nanosecond a byte is slow: a faster one was seen to gain nothing by several threads.
@@ -24,10 +24,10 @@ const SPREAD_COST: u64 = 2;
 /// only guessed what one would take, and what else the machine does may have made it slow.
 const FIRST_SLOW_LIMIT: u32 = 2;
 
-/// Each time when one thread then was slow, too, that limit grows by so much,
+/// The limit is multiplied by this each time when it was reached.
 const SLOW_LIMIT_GROWTH: u32 = 4;
 
-/// up to so many verdicts.
+/// The limit doesn't grow beyond so many verdicts.
 const LAST_SLOW_LIMIT: u32 = 32;
 
 /// What a clock shows, if it can be read.
