@@ -3,7 +3,7 @@
 
 The stand-in proves nothing. Each case has it behave as a toolchain does that there is, or as one that fails, and looks
 at what it was asked for, in which order, what the build says of that, and what it leaves behind. The repository that is
-built has five crates of a few words each. The last line is `N passed, M failed`.
+built has six crates of a few words each. The last line is `N passed, M failed`.
 """
 
 import os
@@ -19,8 +19,15 @@ from pathlib import Path
 TOOLS = Path(__file__).resolve().parent.parent / "tools"
 PROGRAM = "crates/pargrep/out/pargrep"
 # The crates, by what they are built over. The last one isn't part of the program.
-CRATES = {"low": [], "left": ["low"], "right": ["low"], "pargrep": ["left", "right"], "of_tests": ["left"]}
-LIBRARIES = ["left", "low", "right"]
+CRATES = {
+    "low": [],
+    "left": ["low"],
+    "right": ["low"],
+    "high": ["left", "right"],
+    "pargrep": ["high"],
+    "of_tests": ["left"],
+}
+LIBRARIES = ["high", "left", "low", "right"]
 
 # What the stand-in does is in KIND. It writes a line of what it was asked for to ASKED.
 STAND_IN = """#!/usr/bin/env python3
@@ -104,8 +111,8 @@ class Repository:
 
 
 def tells_each_crate_once(said):
-    told = re.findall(r"^proved (\w+), ([0-9]) of 4, after [0-9.]+ minutes$", said, re.M)
-    return sorted(it for it, _ in told) == sorted([*LIBRARIES, "pargrep"]) and [it for _, it in told] == list("1234")
+    told = re.findall(r"^proved (\w+), ([0-9]) of 5, after [0-9.]+ minutes$", said, re.M)
+    return sorted(it for it, _ in told) == sorted([*LIBRARIES, "pargrep"]) and [it for _, it in told] == list("12345")
 
 
 def is_built(repository, status, said):
@@ -113,8 +120,8 @@ def is_built(repository, status, said):
 
 
 def keeps(repository):
-    """Each library has a run of its own, those below it first, and a last run is over all; then nothing is left to do,
-    and a change has all asked for again."""
+    """Each library has a run of its own, those below it first, but for the last one, which is proved by a last run over
+    all; then nothing is left to do, and a change has all asked for again."""
     first = is_built(repository, *repository.built("keeps"))
     calls = repository.calls()
     in_order = calls[0] == "ci low" and sorted(calls[1:3]) == ["ci left", "ci right"] and calls[3:] == ["ci"]

@@ -6,8 +6,8 @@ Usage: tools/build.py [RT]
 The toolchain proves them from nothing, those that don't need one another side by side, in a copy that goes when it is
 done, so that an interrupted build leaves nothing behind. A line is printed for each crate as it is proved. Where the
 toolchain keeps on the machine what it has proved, each library has a run of its own, so that those begin first for
-which others wait longest, and a last run over all of them proves and builds the program; a later build proves only what
-changed. Where it keeps nothing, or takes no names of crates, one run proves all. Where nothing changed since the
+which others wait longest, and a last run over all of them proves those that are left, one after the other, and the
+program, and builds it; a later build proves only what changed. Where it keeps nothing, or takes no names of crates, one run proves all. Where nothing changed since the
 program was built, nothing is done. RT_JOBS says how many proofs run at once, each on one processor; without it there
 are as many as there are processors and memory for.
 """
@@ -112,11 +112,21 @@ class Proofs:
                 print(f"{word} {found[1]}, {count}, after {minutes:.1f} minutes", flush=True)
 
 
+def is_chain(names, running, crates):
+    """Whether each of these crates, and of those whose proofs are running, has to be proved before the next one."""
+    names = sorted(names, key=lambda it: len(crates[it].below))
+    before = [{*running}, *({it} for it in names)]
+    return all(lower.issubset(crates[it].below) for it, lower in zip(names, before))
+
+
 def prove_libraries(pool, proofs, crates, jobs):
-    """Has each library proved as soon as all below it are, so many at once, the most urgent ones first. Ends early
+    """Has each library proved as soon as all below it are, so many at once, the most urgent ones first. Those that are
+    left to prove one after the other need no runs of their own, each of which looks at all that is kept. Ends early
     where the toolchain doesn't keep what it has proved, or can't be asked for some crates alone."""
     left, proved, running = by_urgency(proofs.names[:-1], crates), set(), {}
     while left or running:
+        if is_chain(left, running.values(), crates):
+            left.clear()
         ready = [it for it in left if proved.issuperset(crates[it].below)]
         for name in ready[: jobs - len(running)]:
             left.remove(name)

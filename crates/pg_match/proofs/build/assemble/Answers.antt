@@ -99,3 +99,8 @@ loop-i-init g c = begun _ _ _ _ c.new-states.ensures.items c.in_ok-push.ensures
 
 pub seeds-requires-clause-tidy : goal.seeds-requires-clause-tidy
 seeds-requires-clause-tidy g c = rw c.deref.ensures.value c.loop-i.invariant.tidy
+
+pub starts_of-requires-clause-inside : goal.starts_of-requires-clause-inside
+starts_of-requires-clause-inside g c =
+    let seeds = rw c.deref.ensures.value at c.in_ok-seeds.ensures in
+    rw (c.deref-2.ensures.value, c.deref-3.ensures.value) seeds.inside
