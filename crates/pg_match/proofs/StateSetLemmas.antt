@@ -2,13 +2,13 @@
 use Rattle.std.proofs.Common.{◌≡◌, ◌≢◌, ℕ, suc, ◌+◌, ◌-◌, ◌<◌, ◌≤◌, inl, inr, Bool, not, cond, eqb}
 use Rattle.std.proofs.Common.{List, [], ◌∷◌, length}
 use Rattle.std.proofs.Common.{get_or, set, refl, sym, ap, ◌∙◌, arith, length-set, get_or-set_same, get_or-set_other}
-use Rattle.std.proofs.Common.{ne_eqb}
+use Rattle.std.proofs.Common.{ne_eqb, subst}
 use Rattle.std.specs.Prelude.{count_by, slice_index}
 use Rattle.std.proofs.lemmas.Bool.{cases_eq, cases_lt}
 use Rattle.std.proofs.lemmas.List.{get_or_past, get_or_read}
 use Rattle.std.proofs.lemmas.List.Sums.{sum_by-set, sum_by-cons, count_by-le-length}
 use Rattle.pg_match.specs.Closures.{IsOrdered}
-use Rattle.pg_match.specs.StateSets.{Members, mark, listed, IsGood, Inserted}
+use Rattle.pg_match.specs.StateSets.{Buffers, HaveRoom, Members, mark, listed, IsGood, Inserted}
 
 abbrev is_set : ℕ → Bool
 is_set s = not (eqb s 0)
@@ -128,3 +128,12 @@ only_mark t m good ordered some first last q h =
     let high = ordered f.0 (t.len - 1) (omega (arith, f.1)) (omega (arith, some)) in
     let is = ap (mark t) f.2 in
     omega (arith, low, high, is, first, last)
+
+-- both sets have changed places
+pub room_swapped : (b b' : Buffers) (n : ℕ) → b'.current ≡ b.next → b'.next ≡ b.current → HaveRoom b n → HaveRoom b' n
+room_swapped b b' n first second room = record {
+  now = subst IsGood (sym first) room.next;
+  next = subst IsGood (sym second) room.now;
+  now_size = subst (λ s. length s.marks ≡ n) (sym first) room.next_size;
+  next_size = subst (λ s. length s.marks ≡ n) (sym second) room.now_size;
+}

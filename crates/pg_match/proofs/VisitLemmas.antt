@@ -1,6 +1,8 @@
 -- How many visits a search comes to, and that they fit into a number.
-use Rattle.std.proofs.Common.{◌≡◌, ℕ, zero, suc, ◌+◌, ◌-◌, ◌*◌, ◌^◌, ◌<◌, ◌≤◌, max, sym, subst, arith}
+use Rattle.std.proofs.Common.{◌≡◌, ℕ, Option, Some, None, zero, suc, ◌+◌, ◌-◌, ◌*◌, ◌^◌, ◌<◌, ◌≤◌, max, sym, subst}
+use Rattle.std.proofs.Common.{arith}
 use Rattle.std.proofs.Math.Nat.{add-mul, mul-le-mul_left}
+use Rattle.std.specs.Option.{IfNone}
 use Rattle.pg_match.specs.Anchored.{spared}
 
 pub visits_small : (p n v : ℕ) → v ≤ (p + 1) * n → p ≤ 2 ^ 30 → n < 2 ^ 64 → v < 2 ^ 98
@@ -82,6 +84,10 @@ spared_is : (start m : ℕ) → m ≡ max start 1 → m + 1 ≡ spared start
 spared_is zero m is = omega (arith, is)
 spared_is (suc s) m is = omega (arith, is)
 
+pub most_spared : (start m n size v : ℕ) → size ≡ n → m ≡ max start 1 → v ≤ (m + 1) * size → v ≤ spared start * n
+most_spared start m n size v same is le =
+    subst (λ k. v ≤ k * n) (spared_is start m is) (subst (λ k. v ≤ (m + 1) * k) same le)
+
 pub most_more : (start m n size v : ℕ) → size ≡ n → m ≡ max start 1 → v ≤ start * n → v ≤ (m + 1) * size
 most_more start m n size v same is le =
     subst (λ k. v ≤ (m + 1) * k) (sym same) (subst (λ k. v ≤ k * n) (sym (spared_is start m is))
@@ -92,3 +98,17 @@ pub most_fits : (start m n size : ℕ) → size ≡ n → m ≡ max start 1 → 
 most_fits start m n size same is short few =
     let less : n ≤ 2 ^ 64 = omega arith in
     subst (λ k. (m + 1) * k < 2 ^ 97) (sym same) (omega (arith, is, mul-le-mul_left (m + 1) less))
+
+-- what was visited before a search, whose place is in a short line
+pub visits_few : (p n v : ℕ) → v ≤ p * n → p ≤ 2 ^ 30 → n < 2 ^ 64 → v < 2 ^ 95
+visits_few p n v le short few = let less : n ≤ 2 ^ 64 = omega arith in omega (arith, le, mul-le-mul_left p less)
+
+-- where nothing came of it nothing was visited
+pub none_more : {X : Type 0} (Q : Type 0) (o : Option X) (v w most : ℕ) → IfNone o ((w ≡ v) × Q) → v ≤ most
+    → IfNone o (w ≤ most)
+none_more Q None v w most none le = omega (arith, none.0, le)
+none_more Q (Some x) v w most none le = none
+
+pub none_says : {X : Type 0} (P : Type 0) (o : Option X) → P → IfNone o P
+none_says P None says = says
+none_says P (Some x) says = tt

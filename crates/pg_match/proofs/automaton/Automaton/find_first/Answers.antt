@@ -5,7 +5,8 @@ use Rattle.pg_match.specs.Steps.{Has}
 use Rattle.pg_match.specs.Views.{nfa, members, dfa}
 use Rattle.pg_match.proofs.AnchoredLemmas.{start_row_few}
 use Rattle.pg_match.proofs.SingleStartLemmas.{stands_same}
-use Rattle.pg_match.proofs.VisitLemmas.{most_fits, most_more, spared_more, visits_joined}
+use Rattle.pg_match.proofs.VisitLemmas.{most_fits, most_more, most_spared, none_more, none_says, spared_more}
+use Rattle.pg_match.proofs.VisitLemmas.{visits_few, visits_joined}
 use Rattle.pg_match.proofs.automaton.Automaton.find_first.Goals as goal
 
 pub returns-in-Some-clause-visits : goal.returns-in-Some-clause-visits
@@ -58,3 +59,24 @@ returns-then-not-may_begin-clause-spared g c = spared_more c.args.start _ _ c.re
 
 pub returns-then-start-line-clause-spared : goal.returns-then-start-line-clause-spared
 returns-then-start-line-clause-spared g c = spared_more c.args.start _ _ c.requires.visits
+
+pub finish_by_cache-requires-clause-visits : goal.finish_by_cache-requires-clause-visits
+finish_by_cache-requires-clause-visits g c =
+    let few = visits_few c.args.start _ _ c.requires.visits (omega (arith, c.requires.start_in, c.requires.short))
+    (omega (arith, c.args.self.now.states.ok.0)) in
+    omega (arith, few)
+
+pub returns-clause-visits : goal.returns-clause-visits
+returns-clause-visits g c = c.finish_first.ensures.visits
+
+pub returns-in_err-run-clause-spared : goal.returns-in_err-run-clause-spared
+returns-in_err-run-clause-spared g c =
+    let same = c.len.ensures ∙ c.args.self.now.states.ok.0 in
+    none_says _ _ (most_spared c.args.start c.max.result _ c.len.result _ same c.max.ensures
+    c.follow_until_end.ensures.most)
+
+pub returns-clause-spared : goal.returns-clause-spared
+returns-clause-spared g c =
+    let same = c.len.ensures ∙ c.args.self.now.states.ok.0 in
+    none_more _ c.finish_first.result _ _ _ c.finish_first.ensures.none
+    (most_spared c.args.start c.max.result _ c.len.result _ same c.max.ensures c.follow_until_end.ensures.most)

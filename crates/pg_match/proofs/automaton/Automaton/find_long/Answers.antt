@@ -2,11 +2,23 @@ use Rattle.std.proofs.Common.{◌-◌, ◌+◌, ◌*◌, ◌<◌, ◌≤◌, Som
 use Rattle.std.specs.Option.{IfSome}
 use Rattle.pg_match.specs.Anchored.{IsAlone}
 use Rattle.pg_match.specs.Steps.{Has}
-use Rattle.pg_match.specs.Views.{nfa, members}
+use Rattle.pg_match.specs.Views.{nfa, members, Tells}
 use Rattle.pg_match.proofs.AnchoredLemmas.{best_behind}
 use Rattle.pg_match.proofs.SingleStartLemmas.{visits_spared}
-use Rattle.pg_match.proofs.VisitLemmas.{visits_joined, visits_spare}
+use Rattle.pg_match.proofs.VisitLemmas.{told_on, visits_joined, visits_spare}
+use Rattle.pg_match.proofs.automaton.Automaton.find_long.Given.{Over}
 use Rattle.pg_match.proofs.automaton.Automaton.find_long.Goals as goal
+use Rattle.pg_match.proofs.automaton.Automaton.find_long.Goals.{After-enter_known-at}
+use Rattle.pg_match.proofs.automaton.Automaton.find_long.Goals.{then-from-gt0+in_default, else-from-gt0+else-is_some}
+
+-- what was told until the runs of all starts are followed
+entered : (g : Over) (c : After-enter_known-at g) → Tells c.args.sets.now c.enter_known-at.new.sets
+entered g c =
+    elim c.if-from-gt0.branch [
+      | then-from-gt0+in_default w ↦
+          told_on _ _ _ _ _ _ w.find_first.ensures.told (rw w.sets-is at c.enter_known-at.ensures.told)
+      | else-from-gt0+else-is_some w ↦ rw w.sets-is at c.enter_known-at.ensures.told
+    ]
 
 pub returns-clause-best : goal.returns-clause-best
 returns-clause-best g c =
@@ -53,3 +65,21 @@ returns-in_default-left-clause-visits g c =
     let at = c.enter_known-at.result in
     visits_joined (at + 1) (l - at) (l + 1) (length c.args.self.now.states.items) _ _ c.enter_known-at.ensures.visits
     c.find_until-best.ensures.visits (omega (arith, c.enter_known-at.ensures.place))
+
+pub returns-in-Some-clause-told : goal.returns-in-Some-clause-told
+returns-in-Some-clause-told g c = c.find_first.ensures.told
+
+pub returns-in_default-left-clause-told : goal.returns-in_default-left-clause-told
+returns-in_default-left-clause-told g c =
+    let until = entered g (goal.at.returns-in_default-left-clause-told g c).After-enter_known-at in
+    omega (arith, until, c.find_until-best.ensures.told)
+
+pub returns-in_err-start-clause-told : goal.returns-in_err-start-clause-told
+returns-in_err-start-clause-told g c =
+    let until = entered g (goal.at.returns-in_err-start-clause-told g c).After-enter_known-at in
+    omega (arith, until, c.find_until-best.ensures.told)
+
+pub returns-clause-told : goal.returns-clause-told
+returns-clause-told g c =
+    let until = entered g (goal.at.returns-clause-told g c).After-enter_known-at in
+    omega (arith, until, c.find_until-best.ensures.told, c.finish_anchored.ensures.told)
