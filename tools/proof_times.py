@@ -78,7 +78,8 @@ def goals_of(prover, crate, function):
         said = ended([*prover.words(crate), f"--start={function.shown()}", "--generated", room], crate.folder())
         files = [it for it in Path(room).rglob("Goals.antt") if it.parent.name == function.name.split("/")[-1]]
         if len(files) != 1:
-            sys.exit(f"{said.output}proof_times: the goals of {function.shown()} were not written, see above")
+            what = "which is so of functions that call each other, too: they have their goals together"
+            sys.exit(f"{said.output}proof_times: {function.shown()} has no goals of its own, {what}")
         return GOAL.findall(files[0].read_text(encoding="utf-8")), files[0].parent.relative_to(room)
 
 

@@ -109,6 +109,7 @@ pub none_more : {X : Type 0} (Q : Type 0) (o : Option X) (v w most : ℕ) → If
 none_more Q None v w most none le = omega (arith, none.0, le)
 none_more Q (Some x) v w most none le = none
 
-pub none_says : {X : Type 0} (P : Type 0) (o : Option X) → P → IfNone o P
-none_says P None says = says
-none_says P (Some x) says = tt
+-- what holds anyway holds where there is no value
+pub if_none : {X : Type 0} (P : Type 0) (o : Option X) → P → IfNone o P
+if_none P None says = says
+if_none P (Some x) says = tt

@@ -5,7 +5,7 @@ use Rattle.pg_match.specs.Steps.{Has}
 use Rattle.pg_match.specs.Views.{nfa, members, dfa}
 use Rattle.pg_match.proofs.AnchoredLemmas.{start_row_few}
 use Rattle.pg_match.proofs.SingleStartLemmas.{stands_same}
-use Rattle.pg_match.proofs.VisitLemmas.{most_fits, most_more, most_spared, none_more, none_says, spared_more}
+use Rattle.pg_match.proofs.VisitLemmas.{if_none, most_fits, most_more, most_spared, none_more, spared_more}
 use Rattle.pg_match.proofs.VisitLemmas.{visits_few, visits_joined}
 use Rattle.pg_match.proofs.automaton.Automaton.find_first.Goals as goal
 
@@ -72,7 +72,7 @@ returns-clause-visits g c = c.finish_first.ensures.visits
 pub returns-in_err-run-clause-spared : goal.returns-in_err-run-clause-spared
 returns-in_err-run-clause-spared g c =
     let same = c.len.ensures ∙ c.args.self.now.states.ok.0 in
-    none_says _ _ (most_spared c.args.start c.max.result _ c.len.result _ same c.max.ensures
+    if_none _ _ (most_spared c.args.start c.max.result _ c.len.result _ same c.max.ensures
     c.follow_until_end.ensures.most)
 
 pub returns-clause-spared : goal.returns-clause-spared
