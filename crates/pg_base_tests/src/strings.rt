@@ -3,13 +3,15 @@ ghost use Rattle.std.specs.Prelude.{◌≤◌, length, IfOk, OnOk};
 ghost use Rattle.std.specs.List.{All};
 
 use crate::rows::{Question, assert_rows, bytes_of};
+use pg_pattern::Bounds;
 use pg_strings::{Budget, Outcome, Rate, StringSet};
 use refusing::Refusing;
 use std::alloc::{AllocError, Allocator, Global};
 
 /// What is asked of strings, which `;` parts, and a text; and what a search by hand gives: for each place of the text
 /// the first place at or behind it at which a string stands, or the length of the longest string that stands there; or
-/// whether the text is one of the strings. `##` gives a hundred strings, with two digits each.
+/// whether the text is one of the strings. With `first-word` a string has to begin and end as a word, and with
+/// `longest-word` to end as one. `##` gives a hundred strings, with two digits each.
 const ROWS: &str = "first ab;abc;bc xxabcxbc => 2 2 2 3 6 6 6 - -
 longest ab;abc;bc xxabcxbc => - - 3 2 - - 2 - -
 first a;ab;abc abcab => 0 3 3 3 - -
@@ -32,6 +34,8 @@ longest yx;q;abcd xyzzzzzzzzyxq => - - - - - - - - - - 2 - 1 -
 longest a;ab;abc;abcd abcdabca => 4 - - - 3 - - 1 -
 first xq;abc abcx => 0 - - - -
 longest xq;abc abcx => 3 - - - -
+first-word ab;abc;bc ab-abcd-abc => 0 8 8 8 8 8 8 8 8 - - -
+longest-word ab;abc;bc ab-abcd-abc => 2 - - - - - - - 3 2 - -
 line ab;abc;bc abc => yes
 line ab;abc;bc ab => yes
 line ab;abc;bc abcd => no
@@ -46,6 +50,8 @@ first orderkey##;orderkey##ab;k orderkey07abz => 0 5 5 5 5 5 - - - - - - - -
 longest orderkey##;orderkey##ab;orderkey orderkey07abz => 12 - - - - - - - - - - - - -
 longest orderkey##;key zorderkey4 => - - - - - - 3 - - - -
 first orderkey## orderkeyorderkey99 => 8 8 8 8 8 8 8 8 8 - - - - - - - - - -
+first-word orderkey##;orderkey##ab;k orderkey07ab-orderkey07 => 0 13 13 13 13 13 13 13 13 13 13 13 13 13 - - - - - - - - - -
+longest-word orderkey##;orderkey##ab;k orderkey07ab-orderkey07 => 12 - - - - - - - - - - - - 10 - - - - - - - - - -
 line orderkey##;key orderkey41 => yes
 line orderkey##;key orderkey4 => no
 line orderkey##;key key => yes
@@ -109,24 +115,27 @@ fn budget(left: usize, rate: Rate) -> Budget {
     Budget { left, rate }
 }
 
-/// The first place at or behind `from` at which a string stands.
-fn first_place(set: &StringSet, text: &[u8], from: usize) -> Option<usize>
-    requires { from ≤ length text.now }
+/// What a row of this kind asks of a place of a text.
+fn found_at(set: &StringSet, kind: &str, text: &[u8], place: usize) -> Option<usize>
+    requires { place ≤ length text.now }
 {
-    match set.find(text, from, &mut budget(1_000, Rate::High)) {
+    let mut budget = budget(1_000, Rate::High);
+    let outcome = match kind {
+        "longest" => return set.longest_at(Bounds::Any, text, place),
+        "longest-word" => return set.longest_at(Bounds::Word, text, place),
+        "first-word" => set.find_hit(Bounds::Word, text, place, &mut budget),
+        _ => set.find(text, place, &mut budget),
+    };
+    match outcome {
         Outcome::Found(place) => Some(place),
         _ => None,
     }
 }
 
-/// Shows for each place of a text where the first string stands, or else how long the longest is that stands there.
-fn show_each(set: &StringSet, asks_first: bool, text: &[u8], out: &mut String) {
+/// Shows for each place of a text what a row of this kind asks.
+fn show_each(set: &StringSet, kind: &str, text: &[u8], out: &mut String) {
     for place in 0..=text.len() {
-        let found = if asks_first {
-            first_place(set, text, place)
-        } else {
-            set.longest_at(text, place)
-        };
+        let found = found_at(set, kind, text, place);
         let _ = match found {
             Some(place) => write!(out, " {place}"),
             None => out.push_str(" -"),
@@ -141,10 +150,12 @@ pub(crate) fn show_places(alloc: Global, kind: &str, asked: &str, out: &mut Stri
         return;
     };
     let text = bytes_of(alloc, text);
-    if kind == "line" {
-        let _ = out.push_str(if set.contains(&text) { "yes" } else { "no" });
-    } else if kind == "first" || kind == "longest" {
-        show_each(&set, kind == "first", &text, out);
+    match kind {
+        "line" => {
+            let _ = out.push_str(if set.contains(&text) { "yes" } else { "no" });
+        }
+        "first" | "first-word" | "longest" | "longest-word" => show_each(&set, kind, &text, out),
+        _ => {}
     }
 }
 

@@ -4,7 +4,7 @@ use Rattle.std.proofs.Common.{◌∷◌, length, get_or, take, drop, slice_range
 use Rattle.std.proofs.Common.{Bool, map, max, length-drop}
 use Rattle.std.specs.Option.{IfSome, MatchOption, is_some}
 use Rattle.std.specs.List.{All}
-use Rattle.std.proofs.lemmas.List.{take_rest}
+use Rattle.std.proofs.lemmas.List.{take_rest, length-take-le, get_or-take}
 use Rattle.memchr.specs.Find.{OccursAt, FindsNeedle}
 use Rattle.pg_pattern.specs.Tests.{has_hit}
 use Rattle.pg_prefilter.proofs.HitLemmas.{hit_found, hit_missed}
@@ -23,7 +23,6 @@ use Rattle.pg_prefilter.specs.Strings.{HitsIgnoreFront, IsNear, IsReachOf, Finds
 use Rattle.pg_prefilter.specs.declared.strings.NextString.TheVariants.{Nowhere, Behind}
 use Rattle.pg_prefilter.proofs.JudgeLemmas.{take_searched}
 use Rattle.pg_prefilter.proofs.NeedleLemmas.{next_none, next_some, occurs_whole, searched_behind}
-use Rattle.pg_prefilter.proofs.StandingLemmas.{take_occurs}
 
 module _ (text : SearchText) (near : List ℕ) (before : ℕ) (is : IsNear text near before) (searched line : List ℕ)
     (from : ℕ) (same : searched ≡ as_searched text.fold line) (within : from ≤ length searched) where
@@ -141,6 +140,19 @@ pub heads_are : {A : Type 0} (text : SearchText) (trees : List Pattern) → AreT
 heads_are {A} text trees spelled literals are some all trees' spelled' =
     subst (λ ts. P.AreHeads text.fold ts (bounds_of text) literals) (same_trees text trees trees' spelled spelled')
     (are some all)
+
+-- a text that stands in what is before a place stands in all, and ends before it
+take_occurs : (xs s : List ℕ) (p stop : ℕ) → stop ≤ length xs → OccursAt (take stop xs) s p
+    → OccursAt xs s p × (p + length s ≤ stop)
+take_occurs xs s p stop within o =
+    let long = length-take-le stop xs within in
+    let short : p + length s ≤ stop = omega (arith, long, o.fits) in (
+      record {
+        fits = omega (arith, short, within);
+        reads = λ j less. sym (get_or-take stop xs (p + j) 0 (omega (arith, less, short))) ∙ o.reads j less;
+      },
+      short,
+    )
 
 module _ (text : SearchText) (needle : List ℕ) (reach : ℕ) (reaches : IsReachOf text reach) (flag : Bool)
     (are : AreLiterals text (flagged flag needle ∷ [])) (trees : List Pattern) (spelled : AreTreesOf text trees) where

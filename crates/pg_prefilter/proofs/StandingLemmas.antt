@@ -1,17 +1,16 @@
--- Strings that stand in a line where a match may begin and end.
-use Rattle.std.proofs.Common.{◌≡◌, ◌<◌, ◌≤◌, ◌+◌, ◌-◌, ℕ, inl, inr, Some}
-use Rattle.std.proofs.Common.{List, length, take, get_or, sym, ap, ◌∙◌, subst, arith}
+-- Strings that stand in a line where a match may begin and end, for `next_standing` and `whole_line`.
+use Rattle.std.proofs.Common.{◌≡◌, ◌<◌, ◌≤◌, ◌+◌, ℕ, None, Some}
+use Rattle.std.proofs.Common.{List, length, get_or, sym, ap, ◌∙◌, subst, arith}
 use Rattle.std.specs.List.{All, Any as AnyOf, Contains}
-use Rattle.std.proofs.lemmas.Bool.{cases_lt}
-use Rattle.std.proofs.lemmas.List.{length-take-le, get_or-take, get_or_default, same_lists}
+use Rattle.std.proofs.lemmas.List.{get_or_default, same_lists}
 use Rattle.std.proofs.lemmas.List.Elements.{All-weaker}
 use Rattle.memchr.specs.Find.{OccursAt, Nowhere, NoneBefore}
-use Rattle.pg_pattern.specs.Bounds.{MayBegin, MayEnd}
-use Rattle.pg_strings.specs.Sets.{SomeStands}
+use Rattle.pg_pattern.specs.Bounds.{MayEnd}
+use Rattle.pg_strings.specs.Sets.{StandsAs, SomeHit}
 use Rattle.pg_strings.specs.Outcomes.{strings_of, IsLongestAt}
 use Rattle.pg_strings.specs.declared.set.StringSet.{StringSet}
 use Rattle.pg_selection.specs.Search.{Bounds, Whole}
-use Rattle.pg_prefilter.specs.Strings.{IsStringHit, IsNextString, HasNoString, IsLongestHit}
+use Rattle.pg_prefilter.specs.Strings.{IsStringHit, IsNextString, HasNoString}
 
 -- each string of a set has a byte
 pub are_some : {A : Type 0} (set : StringSet A) → All (λ s. 1 ≤ length s) (strings_of set)
@@ -19,158 +18,63 @@ are_some set =
     All-weaker (λ (s : List ℕ). (1 ≤ length s) × (3 ≤ length s → set.width ≤ length s)) (λ s. 1 ≤ length s)
     (λ s long. long.0) (strings_of set) set.long
 
--- a text that ends before a place stands in what is before it
-occurs_take : (xs s : List ℕ) (p stop : ℕ) → stop ≤ length xs → p + length s ≤ stop → OccursAt xs s p
-    → OccursAt (take stop xs) s p
-occurs_take xs s p stop within short o =
-    let long = length-take-le stop xs within in
-    record {
-      fits = omega (arith, long, short);
-      reads = λ j less. get_or-take stop xs (p + j) 0 (omega (arith, less, short)) ∙ o.reads j less;
-    }
-
--- and the other way round
-pub take_occurs : (xs s : List ℕ) (p stop : ℕ) → stop ≤ length xs → OccursAt (take stop xs) s p
-    → OccursAt xs s p × (p + length s ≤ stop)
-take_occurs xs s p stop within o =
-    let long = length-take-le stop xs within in
-    let short : p + length s ≤ stop = omega (arith, long, o.fits) in (
-      record {
-        fits = omega (arith, short, within);
-        reads = λ j less. sym (get_or-take stop xs (p + j) 0 (omega (arith, less, short))) ∙ o.reads j less;
-      },
-      short,
-    )
-
--- no hit at a place ends behind another one
-abbrev pub NoneBehind : List (List ℕ) → Bounds → List ℕ → ℕ → ℕ → Type 0
-NoneBehind strings bounds line place stop = (j : ℕ) → stop < j → IsStringHit strings bounds line place j → ⊥
-
--- no hit starts from one place up to another
-abbrev pub NoneFrom : List (List ℕ) → Bounds → List ℕ → ℕ → ℕ → Type 0
-NoneFrom strings bounds line from at = (i j : ℕ) → from ≤ i → i < at → IsStringHit strings bounds line i j → ⊥
-
 module _ (strings : List (List ℕ)) (bounds : Bounds) (line : List ℕ) (some : All (λ s. 1 ≤ length s) strings) where
   -- the string of a hit has a byte, and ends within the line
-  pub hit_some : (i j : ℕ) → IsStringHit strings bounds line i j → (i < j) × (j ≤ length line)
+  hit_some : (i j : ℕ) → IsStringHit strings bounds line i j → (i < j) × (j ≤ length line)
   hit_some i j hit =
       let any = hit.stands in
       let long = subst (λ (s : List ℕ). 1 ≤ length s) any.3 (some any.0 any.1 any.2) in
       (omega (arith, long, any.4.1), omega (arith, any.4.0.fits, any.4.1))
 
-  -- it stands
-  pub hit_somewhere : (i j : ℕ) → IsStringHit strings bounds line i j → SomeStands strings line i
-  hit_somewhere i j hit =
+  -- it stands, and ends as a match may
+  hit_stands : (i j : ℕ) → IsStringHit strings bounds line i j
+      → AnyOf (λ s. StandsAs bounds line i s × (i + length s ≡ j)) strings
+  hit_stands i j hit =
       let any = hit.stands in
-      (any.0, any.1, any.2, any.3, any.4.0)
+      (any.0, any.1, any.2, any.3, ((any.4.0, subst (MayEnd bounds line) (sym any.4.1) hit.ends), any.4.1))
 
-  module _ (place stop : ℕ) (within : stop ≤ length line) (behind : NoneBehind strings bounds line place stop) where
-    -- a hit ends by then
-    stands_by : (j : ℕ) → IsStringHit strings bounds line place j
-        → AnyOf (λ s. OccursAt (take stop line) s place × (place + length s ≡ j)) strings × (j ≤ stop)
-    stands_by j hit =
-        let any = hit.stands in
-        let by : j ≤ stop = elim (cases_lt stop j) [
-          | inl less ↦ absurd (behind j less hit)
-          | inr more ↦ more
-        ] in (
-          (
-            any.0,
-            any.1,
-            any.2,
-            any.3,
-            (occurs_take line any.1 place stop within (omega (arith, any.4.1, by)) any.4.0, any.4.1),
-          ),
-          by,
-        )
+  -- so some string does
+  hit_somewhere : (i j : ℕ) → IsStringHit strings bounds line i j → SomeHit strings bounds line i
+  hit_somewhere i j hit =
+      let any = hit_stands i j hit in
+      (hit.begins, (any.0, any.1, any.2, any.3, any.4.0))
 
-    -- where no string stands before it, there is no hit
-    pub none_hits : (SomeStands strings (take stop line) place → ⊥) → (j : ℕ)
-        → IsStringHit strings bounds line place j → ⊥
-    none_hits none j hit =
-        let any = (stands_by j hit).0 in
-        none (any.0, any.1, any.2, any.3, any.4.0)
+  -- where no string stands so from there on, there is none at all
+  pub none_from : (from : ℕ) → Nowhere (SomeHit strings bounds line) from (length line)
+      → HasNoString strings bounds line from
+  none_from from nowhere i j low hit =
+      let inside = hit_some i j hit in
+      nowhere i low (omega (arith, inside.0, inside.1)) (hit_somewhere i j hit)
 
-    module _ (len : ℕ) (longest : IsLongestAt strings (take stop line) place (Some len)) where
-      -- no hit is longer than the longest string before it
-      no_longer : (j : ℕ) → IsStringHit strings bounds line place j → j ≤ place + len
-      no_longer j hit =
-          let any = (stands_by j hit).0 in
-          let high = subst (λ s. OccursAt (take stop line) s place → length s ≤ len) any.3
-          (longest.1 any.0 any.1 any.2) any.4.0 in
-          omega (arith, high, any.4.1)
+  module _ (from place : ℕ) (first : NoneBefore (SomeHit strings bounds line) from (length line) place)
+      (here : SomeHit strings bounds line place) where
+    -- the longest string that stands so at the first place where one does is the next one
+    pub next_is : (len : ℕ) → IsLongestAt strings bounds line place (Some len)
+        → IsNextString strings bounds line from place (place + len)
+    next_is len longest =
+        let any = longest.0 in
+        let long = subst (λ (s : List ℕ). 1 ≤ length s) any.3 (some any.0 any.1 any.2) in
+        record {
+          later = first.low;
+          some = omega (arith, long, any.4.1);
+          hit = record {
+            begins = here.0;
+            ends = subst (λ n. MayEnd bounds line (place + n)) any.4.1 any.4.0.1;
+            stands = (any.0, any.1, any.2, any.3, (any.4.0.0, ap (λ n. place + n) any.4.1));
+          };
+          first = λ i j low before hit. first.before i low before (hit_somewhere i j hit);
+          longest = λ j hit.
+              let other = hit_stands place j hit in
+              let high = subst (λ s. StandsAs bounds line place s → length s ≤ len) other.3
+              (longest.1 other.0 other.1 other.2) other.4.0 in
+              omega (arith, high, other.4.1);
+        }
 
-      -- that string has a byte, and ends within the line
-      pub longest_some : (1 ≤ len) × (place + len ≤ stop)
-      longest_some =
-          let any = longest.0 in
-          let long = subst (λ (s : List ℕ). 1 ≤ length s) any.3 (some any.0 any.1 any.2) in
-          let fits = (take_occurs line any.1 place stop within any.4.0).1 in
-          (omega (arith, long, any.4.1), omega (arith, fits, any.4.1))
+    -- and there is one
+    pub some_is : IsLongestAt strings bounds line place None → ⊥
+    some_is none = none here.1
 
-      -- where it ends as a match may, it is the longest hit
-      pub longest_is_hit : MayBegin bounds line place → MayEnd bounds line (place + len)
-          → IsLongestHit strings bounds line place (Some (place + len))
-      longest_is_hit begins ends =
-          let any = longest.0 in
-          let o = take_occurs line any.1 place stop within any.4.0 in (
-            omega (arith, longest_some.0),
-            record {
-              begins = begins;
-              ends = ends;
-              stands = (any.0, any.1, any.2, any.3, (o.0, omega (arith, any.4.1)));
-            },
-            no_longer,
-          )
-
-      -- else a hit ends before it
-      pub ends_before : (MayEnd bounds line (place + len) → ⊥) → NoneBehind strings bounds line place (place + len - 1)
-      ends_before unended j more hit =
-          let most = no_longer j hit in
-          let here : j ≡ place + len = omega (arith, most, more, longest_some.0) in
-          unended (subst (MayEnd bounds line) here hit.ends)
-
-  -- where no string stands from there on, there is none at all
-  pub none_further : (from at : ℕ) → NoneFrom strings bounds line from at
-      → Nowhere (SomeStands strings line) at (length line) → HasNoString strings bounds line from
-  none_further from at none nowhere i j low hit = elim (cases_lt i at) [
-    | inl front ↦ none i j low front hit
-    | inr behind ↦
-        let inside = hit_some i j hit in
-        nowhere i behind (omega (arith, inside.0, inside.1)) (hit_somewhere i j hit)
-  ]
-
-  module _ (from at place : ℕ) (none : NoneFrom strings bounds line from at)
-      (first : NoneBefore (SomeStands strings line) at (length line) place) where
-    -- up to the first place where a string stands there is none
-    none_before : NoneFrom strings bounds line from place
-    none_before i j low high hit = elim (cases_lt i at) [
-      | inl front ↦ none i j low front hit
-      | inr behind ↦ first.before i behind high (hit_somewhere i j hit)
-    ]
-
-    -- nor there, where none of the strings ends as a match may
-    pub none_here : ((j : ℕ) → IsStringHit strings bounds line place j → ⊥)
-        → NoneFrom strings bounds line from (place + 1)
-    none_here nothing i j low high hit = elim (cases_lt i place) [
-      | inl front ↦ none_before i j low front hit
-      | inr behind ↦
-          let here : i ≡ place = omega (arith, behind, high) in
-          nothing j (subst (λ k. IsStringHit strings bounds line k j) here hit)
-    ]
-
-    -- the longest hit there is the next one
-    pub next_here : from ≤ at → (stop : ℕ) → IsLongestHit strings bounds line place (Some stop)
-        → IsNextString strings bounds line from place stop
-    next_here low stop longest = record {
-      later = let up = first.low in omega (arith, low, up);
-      some = longest.0;
-      hit = longest.1;
-      first = none_before;
-      longest = longest.2;
-    }
-
--- and the other way round
+-- a text that stands at the begin of a line and has its length is the line
 occurs_whole : (line s : List ℕ) → OccursAt line s 0 → 0 + length s ≡ length line → s ≡ line
 occurs_whole line s o same =
     same_lists s line (omega (arith, same)) (λ k d less.

@@ -1,7 +1,7 @@
 -- Queries whose patterns are all fixed strings, or whose matches have a text near where they begin or are a line's end,
 -- and where these stand in a line (XCU grep, -F; GNU grep, -w and -o).
 use Rattle.std.specs.Prelude.{◌≡◌, ℕ, ◌+◌, ◌<◌, ◌≤◌, List, length, map, slice_range}
-use Rattle.std.specs.Prelude.{Option, None, Some, MatchOption, IsTrue}
+use Rattle.std.specs.Prelude.{Option, None, Some, IsTrue}
 use Rattle.std.specs.Borrow.{Bor}
 use Rattle.std.specs.List.{Any}
 use Rattle.memchr.specs.Find.{OccursAt}
@@ -47,12 +47,6 @@ pub record IsNextString (strings : List (List ℕ)) (bounds : Bounds) (line : Li
 -- no string stands so from a place on
 abbrev pub HasNoString : List (List ℕ) → Bounds → List ℕ → ℕ → Type 0
 HasNoString strings bounds line place = (i j : ℕ) → place ≤ i → IsStringHit strings bounds line i j → ⊥
-
--- the end of the longest string that stands so at a place, if one does
-abbrev pub IsLongestHit : List (List ℕ) → Bounds → List ℕ → ℕ → Option ℕ → Type 0
-IsLongestHit strings bounds line place stop = MatchOption stop ((j : ℕ) → IsStringHit strings bounds line place j → ⊥)
-    (λ stop. (place < stop) × IsStringHit strings bounds line place stop
-    × ((j : ℕ) → IsStringHit strings bounds line place j → j ≤ stop))
 
 -- the next string of a line, or a place that none begins before, if the search wasn't given up
 abbrev pub FindsString : List (List ℕ) → Bounds → List ℕ → ℕ → NextString → Type 0

@@ -6,7 +6,7 @@ ghost use Rattle.pg_selection.specs.Search.{SearchText, Pattern, Bounds, AreTree
 ghost use Rattle.pg_prefilter.specs.Literals.{AreLiterals, TellHeads, data_of};
 ghost use Rattle.pg_literal.specs.Literals.{as_searched};
 ghost use Rattle.pg_literal.specs.Suffixes.{IsSuffix, suffix_row};
-ghost use Rattle.pg_prefilter.specs.Strings.{IsLongestHit, FindsString, FindsPart, IsNear, IsReachOf, JudgesLine};
+ghost use Rattle.pg_prefilter.specs.Strings.{FindsString, FindsPart, IsNear, IsReachOf, JudgesLine};
 ghost use Rattle.pg_prefilter.specs.Strings.{first_judge};
 ghost use Rattle.pg_prefilter.specs.declared.strings.LineJudge.TheVariants.{Nothing};
 
@@ -81,31 +81,6 @@ impl<'s, A: Allocator> Drop for BlockJudge<'s, A> {
     }
 }
 
-/// The end of the longest string that stands at a place of a line, of those that begin and end where a match may.
-fn longest_hit<A: Allocator>(
-    set: &StringSet<A>,
-    bounds: Bounds,
-    line: &[u8],
-    place: usize,
-) -> Option<usize>
-    requires { place ≤ length line.now }
-    ensures { IsLongestHit (strings_of set.now) bounds line.now place result }
-{
-    if !bounds.may_begin(line, place) {
-        return None;
-    }
-    let mut stop = line.len();
-    while let Some(len) = set.longest_at(&line[..stop], place) {
-        let end = place + len;
-        if bounds.may_end(line, end) {
-            return Some(end);
-        }
-        // A shorter string may have its border.
-        stop = end - 1;
-    }
-    None
-}
-
 /// The first string from a place of a line on, and of those that start there the longest, where a match may begin and
 /// end.
 fn next_standing<A: Allocator>(
@@ -121,19 +96,18 @@ fn next_standing<A: Allocator>(
         left: LINE_BUDGET,
         rate: Rate::High,
     };
-    let mut at = from;
-    while at <= line.len() {
-        let place = match set.find(line, at, &mut budget) {
-            Outcome::Found(place) => place,
-            Outcome::NotFound => return NextString::Nowhere,
-            Outcome::GaveUp(_) => return NextString::GaveUp,
-        };
-        if let Some(end) = longest_hit(set, bounds, line, place) {
-            return NextString::Found(Span { start: place, end });
-        }
-        at = place + 1;
+    let start = match set.find_hit(bounds, line, from, &mut budget) {
+        Outcome::Found(place) => place,
+        Outcome::NotFound => return NextString::Nowhere,
+        Outcome::GaveUp(_) => return NextString::GaveUp,
+    };
+    match set.longest_at(bounds, line, start) {
+        Some(len) => NextString::Found(Span {
+            start,
+            end: start + len,
+        }),
+        None => NextString::Nowhere,
     }
-    NextString::Nowhere
 }
 
 /// The whole line, if it is one of the strings and the search begins at its start.

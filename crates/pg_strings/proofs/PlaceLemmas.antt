@@ -17,7 +17,12 @@ use Rattle.std.proofs.lemmas.Slice.Eq.{slice_eq-Decides}
 use Rattle.memchr.proofs.lemmas.MatchLemmas.{OccursAt-part, OccursAt-from_part}
 use Rattle.memchr.specs.Find.{OccursAt, Nowhere}
 use Rattle.pg_strings.specs.Keys.{items_of, key, home, Weighs, AreLong, AreFlagged}
-use Rattle.pg_strings.specs.Sets.{SomeStands}
+use Rattle.pg_pattern.specs.declared.bounds.Bounds.{Bounds}
+use Rattle.pg_pattern.specs.declared.bounds.Bounds.TheVariants.{Any}
+use Rattle.pg_strings.specs.Outcomes.{IsOutcome}
+use Rattle.pg_strings.specs.declared.outcome.Outcome.{Outcome}
+use Rattle.pg_strings.specs.declared.outcome.Outcome.TheVariants.{Found, NotFound, GaveUp}
+use Rattle.pg_strings.specs.Sets.{SomeStands, StandsAs, SomeStandsAs, SomeHit}
 use Rattle.pg_strings.specs.Short.{SomeLongStands}
 use Rattle.pg_strings.proofs.KeyLemmas.{key_at_place}
 
@@ -34,11 +39,36 @@ unflagged factor width flags strings bytes place k weighs are_long are_flagged e
     let both : true ≡ false = sym flagged ∙ (ap (λ n. slice_index_or flags n true) (sym same) ∙ none) in
     cc
 
--- a string of the list that stands at a place
-pub stands : (strings : List (List ℕ)) (bytes : List ℕ) (place i : ℕ) → i < length strings
-    → OccursAt bytes (get_or strings i []) place → SomeStands strings bytes place
-stands strings bytes place i less occurs =
-    (i, get_or strings i [], less, get_or_default strings i (get_or strings i []) [] less, occurs)
+-- a string of the list that stands at a place and ends where a match may
+pub stands : (strings : List (List ℕ)) (bounds : Bounds) (bytes : List ℕ) (place i : ℕ) → i < length strings
+    → StandsAs bounds bytes place (get_or strings i []) → SomeStandsAs strings bounds bytes place
+stands strings bounds bytes place i less there =
+    (i, get_or strings i [], less, get_or_default strings i (get_or strings i []) [] less, there)
+
+-- where no string stands, there is none that begins and ends as a match may
+pub no_hits : (strings : List (List ℕ)) (bounds : Bounds) (bytes : List ℕ) (i j : ℕ)
+    → Nowhere (SomeStands strings bytes) i j → Nowhere (SomeHit strings bounds bytes) i j
+no_hits strings bounds bytes i j none n low high (begins, (k, string, less, at, there)) =
+    none n low high (k, string, less, at, there.0)
+
+-- a string that stands begins and ends as a match may, where any match counts
+any_hit : (strings : List (List ℕ)) (bytes : List ℕ) (i : ℕ) → SomeStands strings bytes i → SomeHit strings Any bytes i
+any_hit strings bytes i (k, string, less, at, there) = (tt, (k, string, less, at, (there, tt)))
+
+-- so what is found there is found of all that stand
+pub outcome_of_any : (strings : List (List ℕ)) (bytes : List ℕ) (from stop : ℕ) (outcome : Outcome)
+    → IsOutcome (SomeHit strings Any bytes) from stop outcome → IsOutcome (SomeStands strings bytes) from stop outcome
+outcome_of_any strings bytes from stop (Found place) (first, (begins, (k, string, less, at, there))) = (
+  record {
+    low = first.low;
+    high = first.high;
+    before = λ n low high some. first.before n low high (any_hit strings bytes n some);
+  },
+  (k, string, less, at, there.0),
+)
+outcome_of_any strings bytes from stop NotFound none = λ n low high some. none n low high (any_hit strings bytes n some)
+outcome_of_any strings bytes from stop (GaveUp place) (low, high, none) =
+    (low, high, λ n least most some. none n least most (any_hit strings bytes n some))
 
 -- nowhere in two stretches that meet
 pub nowhere_joined : (P : ℕ → Type 0) (i j k : ℕ) → Nowhere P i j → Nowhere P j k → Nowhere P i k

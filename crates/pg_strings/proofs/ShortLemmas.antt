@@ -4,14 +4,17 @@
 use Rattle.std.proofs.Common.{◌≡◌, ℕ, zero, suc, ◌+◌, ◌*◌, ◌<◌, ◌≤◌, Bool, true, false, List, []}
 use Rattle.std.proofs.Common.{length, get_or, refl, sym, ap, ◌∙◌, arith, subst, inl, inr}
 use Rattle.std.specs.Prelude.{slice_index, slice_index_or, replicate}
-use Rattle.std.specs.List.{All, Any, list_any}
+use Rattle.std.specs.List.{All, Any as AnyOf, list_any}
 use Rattle.std.proofs.lemmas.Bool.{cases_lt}
 use Rattle.std.proofs.lemmas.Grind.{common_steps}
 use Rattle.std.proofs.lemmas.List.{get_or_default}
 use Rattle.std.proofs.lemmas.List.Folds.{Any-from_list_any, list_any-from_Any}
 use Rattle.memchr.specs.Find.{OccursAt, Nowhere}
 use Rattle.pg_strings.specs.Keys.{AreLong}
-use Rattle.pg_strings.specs.Sets.{SomeStands}
+use Rattle.pg_pattern.specs.Bounds.{MayEnd}
+use Rattle.pg_pattern.specs.declared.bounds.Bounds.{Bounds}
+use Rattle.pg_pattern.specs.declared.bounds.Bounds.TheVariants.{Any}
+use Rattle.pg_strings.specs.Sets.{SomeStands, StandsAs, SomeStandsAs, StandsSo}
 use Rattle.pg_strings.specs.Short.{is_single, is_pair, AreTables, AreLonger, IsLongestShort, SomeLongStands}
 
 -- a table of which nothing was set
@@ -69,7 +72,7 @@ pair_there bytes string place within two is is' = record {
 -- a string of one byte, of which a table tells, stands at the place
 single_stands : (strings : List (List ℕ)) (bytes : List ℕ) (place : ℕ) → place < length bytes
     → list_any (is_single (slice_index bytes place)) strings ≡ true
-    → Any (λ string. OccursAt bytes string place × (length string ≡ 1)) strings
+    → AnyOf (λ string. OccursAt bytes string place × (length string ≡ 1)) strings
 single_stands strings bytes place within told =
     let (i, string, less, at, is) = Any-from_list_any (is_single (slice_index bytes place)) strings told in
     let one : length string ≡ 1 = grind (arith, common_steps, is) in
@@ -79,7 +82,7 @@ single_stands strings bytes place within told =
 -- as does one of two bytes
 pair_stands : (strings : List (List ℕ)) (bytes : List ℕ) (place : ℕ) → place + 2 ≤ length bytes
     → list_any (is_pair (slice_index bytes place) (slice_index bytes (place + 1))) strings ≡ true
-    → Any (λ string. OccursAt bytes string place × (length string ≡ 2)) strings
+    → AnyOf (λ string. OccursAt bytes string place × (length string ≡ 2)) strings
 pair_stands strings bytes place within told =
     let (i, string, less, at, is) =
     Any-from_list_any (is_pair (slice_index bytes place) (slice_index bytes (place + 1))) strings told in
@@ -111,91 +114,126 @@ single_told strings bytes place i string less at occurs one =
     list_any-from_Any (is_single (slice_index bytes place)) strings
     (i, string, less, at, grind (arith, common_steps, one, same))
 
--- where the bytes of a place are a string of two bytes, that is the longest short one
-pub longest_pair : (strings : List (List ℕ)) (bytes : List ℕ) (place : ℕ) → place + 2 ≤ length bytes
+-- a string that stands at the place stands so where a match may end behind it
+stands_so : (strings : List (List ℕ)) (bounds : Bounds) (bytes : List ℕ) (place n : ℕ)
+    → MayEnd bounds bytes (place + n) → AnyOf (λ string. OccursAt bytes string place × (length string ≡ n)) strings
+    → StandsSo strings bounds bytes place n
+stands_so strings bounds bytes place n ends (i, string, less, at, there) = (
+  i,
+  string,
+  less,
+  at,
+  ((there.0, subst (λ k. MayEnd bounds bytes (place + k)) (sym there.1) ends), there.1),
+)
+
+-- where the bytes of a place are a string of two bytes behind which a match may end, that is the longest short one
+pub longest_pair : (strings : List (List ℕ)) (bounds : Bounds) (bytes : List ℕ) (place : ℕ)
+    → place + 2 ≤ length bytes → MayEnd bounds bytes (place + 2)
     → list_any (is_pair (slice_index bytes place) (slice_index bytes (place + 1))) strings ≡ true
-    → IsLongestShort strings bytes place 2
-longest_pair strings bytes place within told = record {
-  stands = λ some. pair_stands strings bytes place within told;
-  longest = λ k d less occurs short. short;
+    → IsLongestShort strings bounds bytes place 2
+longest_pair strings bounds bytes place within ends told = record {
+  stands = λ some. stands_so strings bounds bytes place 2 ends (pair_stands strings bytes place within told);
+  longest = λ k d less stands short. short;
 }
 
--- where no string of two bytes is at the place
-no_pair : (strings : List (List ℕ)) (bytes : List ℕ) (place : ℕ)
-    → (place + 2 ≤ length bytes
-    → list_any (is_pair (slice_index bytes place) (slice_index bytes (place + 1))) strings ≡ false)
-    → All (λ string. OccursAt bytes string place → length string ≤ 2 → length string ≤ 1) strings
-no_pair strings bytes place none k d less occurs short = elim (cases_lt (length (get_or strings k d)) 2) [
+-- no string of two bytes is at the place, behind which a match may end
+abbrev pub NoPair : List (List ℕ) → Bounds → List ℕ → ℕ → Type 0
+NoPair strings bounds bytes place = place + 2 ≤ length bytes → MayEnd bounds bytes (place + 2)
+    → list_any (is_pair (slice_index bytes place) (slice_index bytes (place + 1))) strings ≡ false
+
+-- no string of one byte is
+abbrev pub NoSingle : List (List ℕ) → Bounds → List ℕ → ℕ → Type 0
+NoSingle strings bounds bytes place = place + 1 ≤ length bytes → MayEnd bounds bytes (place + 1)
+    → list_any (is_single (slice_index bytes place)) strings ≡ false
+
+-- then none of one or two bytes that stands so has two
+no_pair : (strings : List (List ℕ)) (bounds : Bounds) (bytes : List ℕ) (place : ℕ) → NoPair strings bounds bytes place
+    → All (λ string. StandsAs bounds bytes place string → length string ≤ 2 → length string ≤ 1) strings
+no_pair strings bounds bytes place none k d less stands short = elim (cases_lt (length (get_or strings k d)) 2) [
   | inl before ↦ omega (arith, before)
   | inr behind ↦
       let two : length (get_or strings k d) ≡ 2 = omega (arith, behind, short) in
       let at = get_or_default strings k (get_or strings k d) d less in
-      let yes = pair_told strings bytes place k (get_or strings k d) less at occurs two in
-      let fits = occurs.fits in
-      let no = none (omega (arith, fits, two)) in
+      let yes = pair_told strings bytes place k (get_or strings k d) less at stands.0 two in
+      let fits = stands.0.fits in
+      let no = none (omega (arith, fits, two)) (subst (λ n. MayEnd bounds bytes (place + n)) two stands.1) in
       let both : true ≡ false = sym yes ∙ no in
       absurd cc
 ]
 
 -- there a string of one byte is the longest short one
-pub longest_single : (strings : List (List ℕ)) (bytes : List ℕ) (place : ℕ) → place < length bytes
-    → (place + 2 ≤ length bytes
-    → list_any (is_pair (slice_index bytes place) (slice_index bytes (place + 1))) strings ≡ false)
+pub longest_single : (strings : List (List ℕ)) (bounds : Bounds) (bytes : List ℕ) (place : ℕ)
+    → place + 1 ≤ length bytes → MayEnd bounds bytes (place + 1) → NoPair strings bounds bytes place
     → list_any (is_single (slice_index bytes place)) strings ≡ true
-    → IsLongestShort strings bytes place 1
-longest_single strings bytes place within none told = record {
-  stands = λ some. single_stands strings bytes place within told;
-  longest = no_pair strings bytes place none;
+    → IsLongestShort strings bounds bytes place 1
+longest_single strings bounds bytes place within ends none told = record {
+  stands = λ some. stands_so strings bounds bytes place 1 ends
+      (single_stands strings bytes place (omega (arith, within)) told);
+  longest = no_pair strings bounds bytes place none;
 }
 
 -- and where no string of one byte is there either, none stands
-pub longest_clear : (strings : List (List ℕ)) (bytes : List ℕ) (place : ℕ)
-    → list_any (is_pair (slice_index bytes place) (slice_index bytes (place + 1))) strings ≡ false
-    → list_any (is_single (slice_index bytes place)) strings ≡ false → IsLongestShort strings bytes place 0
-longest_clear strings bytes place none none' = record {
+pub longest_clear : (strings : List (List ℕ)) (bounds : Bounds) (bytes : List ℕ) (place : ℕ)
+    → NoPair strings bounds bytes place → NoSingle strings bounds bytes place
+    → IsLongestShort strings bounds bytes place 0
+longest_clear strings bounds bytes place none none' = record {
   stands = λ some. absurd (omega (arith, some));
-  longest = λ k d less occurs short.
-      let few = no_pair strings bytes place (λ within. none) k d less occurs short in
+  longest = λ k d less stands short.
+      let few = no_pair strings bounds bytes place none k d less stands short in
       elim (cases_lt (length (get_or strings k d)) 1) [
         | inl before ↦ omega (arith, before)
         | inr behind ↦
             let one : length (get_or strings k d) ≡ 1 = omega (arith, behind, few) in
             let at = get_or_default strings k (get_or strings k d) d less in
-            let yes = single_told strings bytes place k (get_or strings k d) less at occurs one in
-            let both : true ≡ false = sym yes ∙ none' in
+            let yes = single_told strings bytes place k (get_or strings k d) less at stands.0 one in
+            let fits = stands.0.fits in
+            let no = none' (omega (arith, fits, one)) (subst (λ n. MayEnd bounds bytes (place + n)) one stands.1) in
+            let both : true ≡ false = sym yes ∙ no in
             absurd cc
       ];
 }
 
 -- where no string is short, none stands
-pub longest_none : (strings : List (List ℕ)) (bytes : List ℕ) (place : ℕ) → AreLonger strings
-    → IsLongestShort strings bytes place 0
-longest_none strings bytes place longer = record {
+pub longest_none : (strings : List (List ℕ)) (bounds : Bounds) (bytes : List ℕ) (place : ℕ) → AreLonger strings
+    → IsLongestShort strings bounds bytes place 0
+longest_none strings bounds bytes place longer = record {
   stands = λ some. absurd (omega (arith, some));
-  longest = λ k d less occurs short. let long = longer k d less in absurd (omega (arith, long, short));
+  longest = λ k d less stands short. let long = longer k d less in absurd (omega (arith, long, short));
 }
 
--- a short string that stands at the place is a string that does
-pub short_stands : (strings : List (List ℕ)) (bytes : List ℕ) (place n : ℕ) → IsLongestShort strings bytes place n
-    → 0 < n → SomeStands strings bytes place
-short_stands strings bytes place n longest some =
+-- a short string that stands so is a string that does
+pub short_stands : (strings : List (List ℕ)) (bounds : Bounds) (bytes : List ℕ) (place n : ℕ)
+    → IsLongestShort strings bounds bytes place n → 0 < n → SomeStandsAs strings bounds bytes place
+short_stands strings bounds bytes place n longest some =
     let (i, string, less, at, there) = longest.stands some in
     (i, string, less, at, there.0)
 
--- where neither a short string stands nor a longer one, none does
-pub none_stands : (width : ℕ) (strings : List (List ℕ)) (bytes : List ℕ) (place n : ℕ) → AreLong width strings
-    → IsLongestShort strings bytes place n → n ≡ 0 → (SomeLongStands strings bytes place → ⊥)
-    → SomeStands strings bytes place → ⊥
-none_stands width strings bytes place n are_long longest none no_long (i, string, less, at, occurs) =
+-- where neither a short string stands so nor a longer one, none does
+pub none_stands : (width : ℕ) (strings : List (List ℕ)) (bounds : Bounds) (bytes : List ℕ) (place n : ℕ)
+    → AreLong width strings → IsLongestShort strings bounds bytes place n → n ≡ 0
+    → All (λ string. StandsAs bounds bytes place string → 3 ≤ length string → ⊥) strings
+    → SomeStandsAs strings bounds bytes place → ⊥
+none_stands width strings bounds bytes place n are_long longest none no_long (i, string, less, at, stands) =
     let some : 1 ≤ length string = subst (λ t. 1 ≤ length t) at (are_long i string less).0 in
     elim (cases_lt (length string) 3) [
       | inl before ↦
           let short : length string ≤ n =
-          subst (λ t. OccursAt bytes t place → length t ≤ 2 → length t ≤ n) at (longest.longest i string less) occurs
-          (omega (arith, before)) in
+          subst (λ t. StandsAs bounds bytes place t → length t ≤ 2 → length t ≤ n) at (longest.longest i string less)
+          stands (omega (arith, before)) in
           absurd (omega (arith, short, none, some))
-      | inr behind ↦ no_long (i, string, less, at, (behind, occurs))
+      | inr behind ↦
+          subst (λ t. StandsAs bounds bytes place t → 3 ≤ length t → ⊥) at (no_long i string less) stands behind
     ]
+
+-- where neither a short string stands nor a longer one, none does
+pub any_stands : (width : ℕ) (strings : List (List ℕ)) (bytes : List ℕ) (place : ℕ) → AreLong width strings
+    → IsLongestShort strings Any bytes place 0 → (SomeLongStands strings bytes place → ⊥)
+    → SomeStands strings bytes place → ⊥
+any_stands width strings bytes place are_long longest no_long (i, string, less, at, occurs) =
+    none_stands width strings Any bytes place 0 are_long longest refl
+    (λ k d low stands long. no_long
+    (k, get_or strings k d, low, get_or_default strings k (get_or strings k d) d low, (long, stands.0)))
+    (i, string, less, at, (occurs, tt))
 
 -- where each string has three bytes or more, those are all
 pub all_long : (strings : List (List ℕ)) (bytes : List ℕ) (from stop : ℕ) → AreLonger strings

@@ -1,5 +1,5 @@
--- Strings that are known by all their bytes: for `number_of`, `WholeStrings` and the searches in find_whole.rt.
-use Rattle.std.proofs.Common.{◌≡◌, ℕ, ◌+◌, ◌<◌, ◌≤◌, ◌↔◌, ◌++◌, ◌∷◌, ◌||◌, IsTrue, Bool, true, false}
+-- Strings that are known by all their bytes: for `Prefix`, `WholeStrings` and the searches in find_whole.rt.
+use Rattle.std.proofs.Common.{◌≡◌, ℕ, ◌+◌, ◌-◌, ◌*◌, ◌%◌, ◌<◌, ◌≤◌, ◌↔◌, ◌++◌, ◌∷◌, ◌||◌, IsTrue, Bool, true, false}
 use Rattle.std.proofs.Common.{List, [], length, map, drop, take, get_or, refl, sym, ap, ◌∙◌, arith}
 use Rattle.std.proofs.Common.{subst, inl, inr}
 use Rattle.std.specs.Prelude.{nat_eq, Contains}
@@ -7,15 +7,61 @@ use Rattle.std.specs.List.{All, list_any, sum_by}
 use Rattle.std.proofs.lemmas.Bool.{eqb-true, eq-eqb, cases_lt}
 use Rattle.std.proofs.lemmas.List.{get_or_default, map-append}
 use Rattle.std.proofs.lemmas.List.Elements.{All-push, All-weaker}
-use Rattle.std.proofs.lemmas.List.Folds.{Any-from_list_any, list_any-append}
+use Rattle.std.proofs.lemmas.List.{drop-drop}
+use Rattle.std.proofs.Math.Seq.{take-add}
+use Rattle.std.specs.List.Sorted.{IsPermutation}
+use Rattle.std.proofs.lemmas.List.Sorted.{Contains-permutation, sum_by-IsPermutation}
+use Rattle.std.proofs.lemmas.List.Folds.{Any-from_list_any, list_any-from_Any, list_any-append}
 use Rattle.std.proofs.lemmas.List.Sums.{sum_by-append}
 use Rattle.std.proofs.Math.Bool.{or-true}
 use Rattle.memchr.specs.Find.{OccursAt}
 use Rattle.memchr.proofs.lemmas.MatchLemmas.{OccursAt-part, OccursAt-from_part}
 use Rattle.pg_strings.specs.Keys.{AreChains}
-use Rattle.pg_strings.specs.Sets.{SomeStands, StandsSo}
-use Rattle.pg_strings.specs.Whole.{AreWhole, whole_home}
+use Rattle.pg_pattern.specs.Bounds.{MayEnd}
+use Rattle.pg_pattern.specs.declared.bounds.Bounds.{Bounds}
+use Rattle.pg_strings.specs.Sets.{StandsAs, SomeStandsAs, StandsSo}
+use Rattle.pg_strings.specs.Whole.{AreWhole, number_behind, whole_home}
 use Rattle.pg_strings.proofs.WalkLemmas.{IsWalked}
+
+-- the number of bytes behind others
+number_appended : (before : ℕ) (xs ys : List ℕ)
+    → number_behind before (xs ++ ys) ≡ number_behind (number_behind before xs) ys
+number_appended before [] ys = refl
+number_appended before (x ∷ xs) ys =
+    number_appended ((before * 11400714819323198485 % 18446744073709551616 + x) % 18446744073709551616) xs ys
+
+-- the number of some bytes from a place on, and that of those up to more of them
+pub prefix_more : (bytes : List ℕ) (place less more number : ℕ) → less ≤ more
+    → number ≡ number_behind 0 (take less (drop place bytes))
+    → number_behind number (take (place + more - (place + less)) (drop (place + less) bytes))
+    ≡ number_behind 0 (take more (drop place bytes))
+prefix_more bytes place less more number low is =
+    let rest = drop place bytes in
+    let e : less + (more - less) ≡ more = omega (arith, low) in
+    let n : place + more - (place + less) ≡ more - less = omega (arith, low) in
+    let all : take more rest ≡ take less rest ++ take (more - less) (drop less rest) =
+    ap (λ k. take k rest) (sym e) ∙ take-add less (more - less) rest in
+    ap (λ k. number_behind k (take (place + more - (place + less)) (drop (place + less) bytes))) is
+    ∙ (sym (number_appended 0 (take less rest) (take (place + more - (place + less)) (drop (place + less) bytes)))
+    ∙ ap (number_behind 0) (ap (λ k. take less rest ++ take k (drop (place + less) bytes)) n
+    ∙ (ap (λ xs. take less rest ++ take (more - less) xs) (sym (drop-drop less place bytes)) ∙ sym all)))
+
+-- lengths in another order
+pub whole_moved : (lengths moved first next : List ℕ) (strings : List (List ℕ)) → IsPermutation lengths moved
+    → AreWhole lengths first next strings → AreWhole moved first next strings
+whole_moved lengths moved first next strings permuted are = record {
+  all = All-weaker (λ string. list_any (λ len. nat_eq len (length string)) lengths ≡ true)
+      (λ string. list_any (λ len. nat_eq len (length string)) moved ≡ true)
+      (λ string told.
+      let (i, len, less, at, is) = Any-from_list_any (λ len. nat_eq len (length string)) lengths told in
+      let (j, low, there) = Contains-permutation lengths moved len permuted (i, less, at) in
+      list_any-from_Any (λ len. nat_eq len (length string)) moved (j, len, low, there, is)) strings are.all;
+  worth =
+      let same = sum_by-IsPermutation (λ len. 1 + len) lengths moved permuted in
+      let worth = are.worth in
+      omega (arith, same, worth);
+  linked = are.linked;
+}
 
 -- a string that stands at a place is the text of its length there
 pub text_there : (bytes string text : List ℕ) (place len : ℕ) → text ≡ take len (drop place bytes)
@@ -81,24 +127,39 @@ pub one_is : (strings : List (List ℕ)) (text : List ℕ) (i : ℕ) → i < len
     → Contains strings text
 one_is strings text i less at = (i, less, get_or_default strings i text [] less ∙ at)
 
--- a string of its length stands at a place, if the text there is a string
-pub text_stands : (strings : List (List ℕ)) (bytes text : List ℕ) (place len : ℕ) (b : Bool)
-    → text ≡ take len (drop place bytes) → length text ≡ len → place + len ≤ length bytes
-    → (IsTrue b ↔ Contains strings text)
-    → IsTrue b ↔ StandsSo strings bytes place len
-text_stands strings bytes text place len b is size fits among = (
+-- a string of its length stands at a place, behind which a match may end, if the text there is a string
+pub text_stands : (strings : List (List ℕ)) (bounds : Bounds) (bytes text : List ℕ) (place len : ℕ) (b : Bool)
+    → text ≡ take len (drop place bytes) → length text ≡ len
+    → (place + len ≤ length bytes) × MayEnd bounds bytes (place + len) → (IsTrue b ↔ Contains strings text)
+    → IsTrue b ↔ StandsSo strings bounds bytes place len
+text_stands strings bounds bytes text place len b is size fits among = (
   λ yes.
       let one = among.0 yes in
-      (one.0, text, one.1, one.2, (stands_there bytes text text place len is fits size refl, size)),
+      let there = stands_there bytes text text place len is fits.0 size refl in (
+        one.0,
+        text,
+        one.1,
+        one.2,
+        ((there, subst (λ n. MayEnd bounds bytes (place + n)) (sym size) fits.1), size),
+      ),
   λ one.
-      let same = text_there bytes one.1 text place len is one.4.0 one.4.1 in
+      let same = text_there bytes one.1 text place len is one.4.0.0 one.4.1 in
       among.1 (one.0, one.2, get_or_default strings one.0 text one.1 one.2 ∙ (one.3 ∙ same)),
 )
 
+-- where a string of a length stands, so many bytes are there, behind which a match may end
+pub so_fits : (strings : List (List ℕ)) (bounds : Bounds) (bytes : List ℕ) (place len : ℕ)
+    → StandsSo strings bounds bytes place len
+    → (place + len ≤ length bytes) × MayEnd bounds bytes (place + len)
+so_fits strings bounds bytes place len (i, string, less, at, there) = (
+  (let fits = there.0.0.fits in omega (arith, fits, there.1)),
+  subst (λ n. MayEnd bounds bytes (place + n)) there.1 there.0.1,
+)
+
 -- No string of these lengths stands at a place.
-abbrev pub NoneOf : List (List ℕ) → List ℕ → ℕ → List ℕ → ℕ → Type 0
-NoneOf strings bytes place lengths count = (i : ℕ) → i < count
-    → StandsSo strings bytes place (get_or lengths i 0) → ⊥
+abbrev pub NoneOf : List (List ℕ) → Bounds → List ℕ → ℕ → List ℕ → ℕ → Type 0
+NoneOf strings bounds bytes place lengths count = (i : ℕ) → i < count
+    → StandsSo strings bounds bytes place (get_or lengths i 0) → ⊥
 
 -- the place of a string's length
 pub length_at : (lengths first next : List ℕ) (strings : List (List ℕ)) → AreWhole lengths first next strings
@@ -113,31 +174,32 @@ length_at lengths first next strings whole k string less =
     )
 
 -- where none of any length stands, none stands
-pub none_at_all : (lengths first next : List ℕ) (strings : List (List ℕ)) (bytes : List ℕ) (place : ℕ)
-    → AreWhole lengths first next strings → NoneOf strings bytes place lengths (length lengths)
-    → SomeStands strings bytes place → ⊥
-none_at_all lengths first next strings bytes place whole none some =
+pub none_at_all : (lengths first next : List ℕ) (strings : List (List ℕ)) (bounds : Bounds) (bytes : List ℕ)
+    (place : ℕ) → AreWhole lengths first next strings → NoneOf strings bounds bytes place lengths (length lengths)
+    → SomeStandsAs strings bounds bytes place → ⊥
+none_at_all lengths first next strings bounds bytes place whole none some =
     let at = length_at lengths first next strings whole some.0 some.1 some.2 in
     none at.0 at.1 (some.0, some.1, some.2, some.3, (some.4, sym (at.2 ∙ ap length some.3)))
 
 -- what was found of the lengths before one
-pub record IsLongestOf (strings : List (List ℕ)) (bytes : List ℕ) (place : ℕ) (lengths : List ℕ) (count longest : ℕ)
-    : Type 0 where
-  pub stands : 0 < longest → StandsSo strings bytes place longest
-  pub most : (i : ℕ) → i < count → StandsSo strings bytes place (get_or lengths i 0) → get_or lengths i 0 ≤ longest
+pub record IsLongestOf (strings : List (List ℕ)) (bounds : Bounds) (bytes : List ℕ) (place : ℕ) (lengths : List ℕ)
+    (count longest : ℕ) : Type 0 where
+  pub stands : 0 < longest → StandsSo strings bounds bytes place longest
+  pub most : (i : ℕ) → i < count → StandsSo strings bounds bytes place (get_or lengths i 0)
+      → get_or lengths i 0 ≤ longest
 
 -- one more length
-pub longest_more : (strings : List (List ℕ)) (bytes : List ℕ) (place : ℕ) (lengths : List ℕ) (count longest longer : ℕ)
-    → IsLongestOf strings bytes place lengths count longest → longest ≤ longer
-    → (StandsSo strings bytes place (get_or lengths count 0) → get_or lengths count 0 ≤ longer)
-    → (longest < longer → StandsSo strings bytes place longer)
-    → IsLongestOf strings bytes place lengths (count + 1) longer
-longest_more strings bytes place lengths count longest longer before low own stands = record {
+pub longest_more : (strings : List (List ℕ)) (bounds : Bounds) (bytes : List ℕ) (place : ℕ) (lengths : List ℕ)
+    (count longest longer : ℕ) → IsLongestOf strings bounds bytes place lengths count longest → longest ≤ longer
+    → (StandsSo strings bounds bytes place (get_or lengths count 0) → get_or lengths count 0 ≤ longer)
+    → (longest < longer → StandsSo strings bounds bytes place longer)
+    → IsLongestOf strings bounds bytes place lengths (count + 1) longer
+longest_more strings bounds bytes place lengths count longest longer before low own stands = record {
   stands = λ some. elim (cases_lt longest longer) [
     | inl more ↦ stands more
     | inr same ↦
         let e : longest ≡ longer = omega (arith, low, same) in
-        subst (StandsSo strings bytes place) e (before.stands (omega (arith, e, some)))
+        subst (StandsSo strings bounds bytes place) e (before.stands (omega (arith, e, some)))
   ];
   most = λ i less there. elim (cases_lt i count) [
     | inl earlier ↦
@@ -145,21 +207,23 @@ longest_more strings bytes place lengths count longest longer before low own sta
         omega (arith, most, low)
     | inr last ↦
         let e : i ≡ count = omega (arith, less, last) in
-        subst (λ n. StandsSo strings bytes place (get_or lengths n 0) → get_or lengths n 0 ≤ longer) (sym e) own there
+        subst (λ n. StandsSo strings bounds bytes place (get_or lengths n 0) → get_or lengths n 0 ≤ longer) (sym e) own
+        there
   ];
 }
 
 -- what stands is no longer than the longest of all lengths
-pub none_longer : (lengths first next : List ℕ) (strings : List (List ℕ)) (bytes : List ℕ) (place longest : ℕ)
-    → AreWhole lengths first next strings → IsLongestOf strings bytes place lengths (length lengths) longest
-    → All (λ string. OccursAt bytes string place → length string ≤ longest) strings
-none_longer lengths first next strings bytes place longest whole found k d less occurs =
+pub none_longer : (lengths first next : List ℕ) (strings : List (List ℕ)) (bounds : Bounds) (bytes : List ℕ)
+    (place longest : ℕ) → AreWhole lengths first next strings
+    → IsLongestOf strings bounds bytes place lengths (length lengths) longest
+    → All (λ string. StandsAs bounds bytes place string → length string ≤ longest) strings
+none_longer lengths first next strings bounds bytes place longest whole found k d less stands =
     let at = length_at lengths first next strings whole k d less in
     let high = found.most at.0 at.1 (
       k,
       get_or strings k d,
       less,
       get_or_default strings k (get_or strings k d) d less,
-      (occurs, sym at.2),
+      (stands, sym at.2),
     ) in
     omega (arith, high, at.2)

@@ -1,9 +1,10 @@
 -- What searches for strings come to.
 use Rattle.std.specs.Prelude.{◌≡◌, ℕ, ◌+◌, ◌-◌, ◌*◌, ◌≤◌, List, Option, length, map, MatchOption}
-use Rattle.std.specs.List.{All, Any}
-use Rattle.memchr.specs.Find.{OccursAt, Nowhere, NoneBefore}
+use Rattle.std.specs.List.{All}
+use Rattle.memchr.specs.Find.{Nowhere, NoneBefore}
+use Rattle.pg_pattern.specs.declared.bounds.Bounds.{Bounds}
 use Rattle.pg_strings.specs.Keys.{items_of}
-use Rattle.pg_strings.specs.Sets.{SomeStands}
+use Rattle.pg_strings.specs.Sets.{StandsAs, SomeStandsAs, StandsSo}
 use Rattle.pg_strings.specs.declared.set.StringSet.{StringSet}
 use Rattle.pg_strings.specs.declared.outcome.Outcome.{Outcome}
 use Rattle.pg_strings.specs.declared.outcome.Outcome.TheVariants.{Found, NotFound, GaveUp}
@@ -29,11 +30,11 @@ IsWithinBudget work from stop old new (Found place) =
 IsWithinBudget work from stop old new NotFound = (new ≤ old + 8 * (stop - from)) × (old ≤ new + (stop - from) * work)
 IsWithinBudget work from stop old new (GaveUp place) = (new ≡ 0) × (old ≤ (place + 1 - from) * work)
 
--- the longest string that stands at the place has this length; or none stands
-abbrev pub IsLongestAt : List (List ℕ) → List ℕ → ℕ → Option ℕ → Type 0
-IsLongestAt strings bytes place result = MatchOption result (SomeStands strings bytes place → ⊥)
-    (λ n. Any (λ string. OccursAt bytes string place × (length string ≡ n)) strings
-    × All (λ string. OccursAt bytes string place → length string ≤ n) strings)
+-- the longest string that stands at the place and ends where a match may has this length; or none does
+abbrev pub IsLongestAt : List (List ℕ) → Bounds → List ℕ → ℕ → Option ℕ → Type 0
+IsLongestAt strings bounds bytes place result = MatchOption result (SomeStandsAs strings bounds bytes place → ⊥)
+    (λ n. StandsSo strings bounds bytes place n
+    × All (λ string. StandsAs bounds bytes place string → length string ≤ n) strings)
 
 -- P holds, or not; or nothing is left of the budget
 abbrev pub IsLook : Type 0 → ℕ → Look → Type 0

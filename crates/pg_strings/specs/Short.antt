@@ -4,6 +4,8 @@ use Rattle.std.specs.Prelude.{slice_index_or, nat_eq}
 use Rattle.std.specs.Option.{ForNone, ForSome}
 use Rattle.std.specs.List.{All, Any, list_any}
 use Rattle.memchr.specs.Find.{OccursAt}
+use Rattle.pg_pattern.specs.declared.bounds.Bounds.{Bounds}
+use Rattle.pg_strings.specs.Sets.{StandsAs, StandsSo}
 use Rattle.pg_strings.specs.declared.short.ShortStrings.{ShortStrings}
 
 -- whether the string is this byte
@@ -33,10 +35,11 @@ KnowsShort short strings =
     ForNone short (AreLonger strings)
     × ForSome short (λ tables. AreTables tables.singles.items tables.pairs.items strings)
 
--- a string of this length stands at the place, if it isn't 0, and none of one or two bytes stands there that is longer
-pub record IsLongestShort (strings : List (List ℕ)) (bytes : List ℕ) (place n : ℕ) : Type 0 where
-  pub stands : 0 < n → Any (λ string. OccursAt bytes string place × (length string ≡ n)) strings
-  pub longest : All (λ string. OccursAt bytes string place → length string ≤ 2 → length string ≤ n) strings
+-- a string of this length stands at the place and ends where a match may, if it isn't 0, and none of one or two bytes
+-- does that is longer
+pub record IsLongestShort (strings : List (List ℕ)) (bounds : Bounds) (bytes : List ℕ) (place n : ℕ) : Type 0 where
+  pub stands : 0 < n → StandsSo strings bounds bytes place n
+  pub longest : All (λ string. StandsAs bounds bytes place string → length string ≤ 2 → length string ≤ n) strings
 
 -- some string of three bytes or more stands at the place
 abbrev pub SomeLongStands : List (List ℕ) → List ℕ → ℕ → Type 0

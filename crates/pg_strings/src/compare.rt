@@ -1,11 +1,24 @@
-//! Whether a string stands at a place.
+//! Whether a string stands at a place, and a match may end where it does.
 ghost use Rattle.std.specs.Prelude.{◌≡◌, ◌+◌, ◌≤◌, ◌↔◌, length, IsTrue};
 ghost use Rattle.memchr.specs.Find.{OccursAt};
+ghost use Rattle.pg_pattern.specs.Bounds.{MayEnd};
+ghost use Rattle.pg_strings.specs.Sets.{StandsAs};
 
 use crate::budget::Budget;
+use pg_pattern::Bounds;
 
 /// How many bytes are compared, or make a number, for what looking at one more string, or length, costs.
 pub(crate) const STRIDE: usize = 8;
+
+/// Whether so many bytes from a place on are there, and a match may end behind them.
+#[inline(always)]
+pub(crate) fn fits(bounds: Bounds, len: usize, bytes: &[u8], place: usize) -> bool
+    requires { place ≤ length bytes.now }
+    ensures fits { IsTrue result → place + len ≤ length bytes.now }
+    ensures exact { IsTrue result ↔ (place + len ≤ length bytes.now) × MayEnd bounds bytes.now (place + len) }
+{
+    len <= bytes.len() - place && bounds.may_end(bytes, place + len)
+}
 
 /// Whether the last byte of a string stands where it has to, if the string stands at a place.
 #[inline(always)]
@@ -30,13 +43,14 @@ fn begins_at(string: &[u8], bytes: &[u8], place: usize) -> bool
     rest.starts_with(string)
 }
 
-/// Whether a string stands at a place. Its last byte is looked at first, since strings of one chain begin alike.
+/// Whether a string stands at a place and ends where a match may. Where it ends and its last byte are looked at first,
+/// since strings of one chain begin alike.
 #[inline(always)]
-pub(crate) fn stands(string: &[u8], bytes: &[u8], place: usize) -> bool
+pub(crate) fn stands(string: &[u8], bounds: Bounds, bytes: &[u8], place: usize) -> bool
     requires { place ≤ length bytes.now }
-    ensures { IsTrue result ↔ OccursAt bytes.now string.now place }
+    ensures { IsTrue result ↔ StandsAs bounds bytes.now place string.now }
 {
-    if !ends_at(string, bytes, place) {
+    if !fits(bounds, string.len(), bytes, place) || !ends_at(string, bytes, place) {
         return false;
     }
     begins_at(string, bytes, place)
@@ -49,14 +63,24 @@ pub(crate) fn is_text(string: &[u8], text: &[u8]) -> bool
     string == text
 }
 
-/// Whether a string stands at a place, at the expense of a budget.
+/// Whether a string stands at a place and ends where a match may, at the expense of a budget. One that wouldn't end so
+/// costs nothing, since its length tells.
 #[inline(always)]
-pub(crate) fn stands_within(string: &[u8], bytes: &[u8], place: usize, budget: &mut Budget) -> bool
+pub(crate) fn stands_within(
+    string: &[u8],
+    bounds: Bounds,
+    bytes: &[u8],
+    place: usize,
+    budget: &mut Budget,
+) -> bool
     requires { place ≤ length bytes.now }
-    ensures stands { IsTrue result ↔ OccursAt bytes.now string.now place }
+    ensures stands { IsTrue result ↔ StandsAs bounds bytes.now place string.now }
     ensures less { budget.new.left ≤ budget.old.left }
     ensures cost { budget.old.left ≤ budget.new.left + (1 + length string.now) }
 {
+    if !fits(bounds, string.len(), bytes, place) {
+        return false;
+    }
     if !ends_at(string, bytes, place) {
         budget.spend(1);
         return false;

@@ -1,7 +1,7 @@
 //! The search for the first place at which a string stands.
 ghost use Rattle.std.specs.Prelude.{◌≡◌, ◌+◌, ◌≤◌, length, false};
 ghost use Rattle.memchr.specs.Find.{Nowhere};
-ghost use Rattle.pg_strings.specs.Sets.{SomeStands, work};
+ghost use Rattle.pg_strings.specs.Sets.{SomeHit, SomeStands, work};
 ghost use Rattle.pg_strings.specs.Outcomes.{strings_of, IsOutcome, IsWithinBudget, IsLook};
 ghost use Rattle.pg_strings.specs.Short.{AreTables, SomeLongStands};
 
@@ -11,6 +11,7 @@ use crate::key::{SHARE, key_at, last_key_at};
 use crate::outcome::{Look, Outcome};
 use crate::set::StringSet;
 use crate::short::ShortStrings;
+use pg_pattern::Bounds;
 use std::alloc::Allocator;
 
 impl<A: Allocator> StringSet<A> {
@@ -23,6 +24,23 @@ impl<A: Allocator> StringSet<A> {
         ensures budget { IsWithinBudget (work (strings_of self.now)) from (length bytes.now) budget.old.left
             budget.new.left result }
     {
+        self.find_hit(Bounds::Any, bytes, from, budget)
+    }
+
+    /// The first place of a line, at or behind `from`, at which some string stands that begins and ends where a match
+    /// may, as far as the budget goes. Otherwise as [`StringSet::find`].
+    pub fn find_hit(
+        &self,
+        bounds: Bounds,
+        bytes: &[u8],
+        from: usize,
+        budget: &mut Budget,
+    ) -> Outcome
+        requires { from ≤ length bytes.now }
+        ensures outcome { IsOutcome (SomeHit (strings_of self.now) bounds bytes.now) from (length bytes.now) result }
+        ensures budget { IsWithinBudget (work (strings_of self.now)) from (length bytes.now) budget.old.left
+            budget.new.left result }
+    {
         let mut place = from;
         while place < bytes.len() {
             let next = self.skip(bytes, place);
@@ -30,7 +48,7 @@ impl<A: Allocator> StringSet<A> {
             if next >= bytes.len() {
                 return Outcome::NotFound;
             }
-            match self.look_at(bytes, next, budget) {
+            match self.look_at(bounds, bytes, next, budget) {
                 Look::Stands => return Outcome::Found(next),
                 Look::NoneStands => budget.earn(1),
                 Look::GaveUp => return Outcome::GaveUp(next),
@@ -40,26 +58,29 @@ impl<A: Allocator> StringSet<A> {
         Outcome::NotFound
     }
 
-    /// Whether some string stands at a place.
-    fn look_at(&self, bytes: &[u8], place: usize, budget: &mut Budget) -> Look
+    /// Whether some string stands at a place that begins and ends where a match may.
+    fn look_at(&self, bounds: Bounds, bytes: &[u8], place: usize, budget: &mut Budget) -> Look
         requires { place ≤ length bytes.now }
-        ensures look { IsLook (SomeStands (strings_of self.now) bytes.now place) budget.new.left result }
+        ensures look { IsLook (SomeHit (strings_of self.now) bounds bytes.now place) budget.new.left result }
         ensures less { budget.new.left ≤ budget.old.left }
         ensures cost { budget.old.left ≤ budget.new.left + work (strings_of self.now) }
     {
-        if self.short_at(bytes, place) > 0 {
+        if !bounds.may_begin(bytes, place) {
+            return Look::NoneStands;
+        }
+        if self.short_at(bounds, bytes, place) > 0 {
             return Look::Stands;
         }
         let key = last_key_at(self.factor, bytes, place);
         if let Some(whole) = self.whole_for(key / SHARE) {
-            return self.look_whole(whole, bytes, place, budget);
+            return self.look_whole(whole, bounds, bytes, place, budget);
         }
         let mut link = self.chains.first[key / SHARE];
         while link > 0 {
             if budget.left == 0 {
                 return Look::GaveUp;
             }
-            if stands_within(&self.strings[link - 1], bytes, place, budget) {
+            if stands_within(&self.strings[link - 1], bounds, bytes, place, budget) {
                 return Look::Stands;
             }
             link = self.chains.next[link - 1];

@@ -1,14 +1,16 @@
 //! The search for strings by all their bytes, where many begin alike.
-ghost use Rattle.std.specs.Prelude.{◌+◌, ◌<◌, ◌≤◌, ◌↔◌, length, IfSome, IsTrue, Contains};
-ghost use Rattle.pg_strings.specs.Sets.{SomeStands, StandsSo, work};
+ghost use Rattle.std.specs.Prelude.{◌≡◌, ◌+◌, ◌<◌, ◌≤◌, ◌↔◌, length, IfSome, IsTrue, Contains};
+ghost use Rattle.pg_pattern.specs.Bounds.{MayBegin};
+ghost use Rattle.pg_strings.specs.Sets.{SomeHit, StandsSo, work};
 ghost use Rattle.pg_strings.specs.Outcomes.{strings_of, IsLongestAt, IsLook};
-ghost use Rattle.pg_strings.specs.Whole.{IsWholeOf};
+ghost use Rattle.pg_strings.specs.Whole.{IsPrefix, IsWholeOf, number_behind};
 
 use crate::budget::Budget;
-use crate::compare::{STRIDE, is_text};
+use crate::compare::{fits, is_text};
 use crate::outcome::Look;
 use crate::set::StringSet;
-use crate::whole::{WholeStrings, chain_of};
+use crate::whole::{Prefix, WholeStrings, chain_of};
+use pg_pattern::Bounds;
 use std::alloc::Allocator;
 
 impl<A: Allocator> StringSet<A> {
@@ -22,12 +24,13 @@ impl<A: Allocator> StringSet<A> {
         }
     }
 
-    /// Whether a text is one of the strings.
-    pub(crate) fn has_whole(&self, whole: &WholeStrings<A>, text: &[u8]) -> bool
-        requires { IsWholeOf whole.now (strings_of self.now) }
+    /// Whether a text, which has this number, is one of the strings.
+    pub(crate) fn has_whole(&self, whole: &WholeStrings<A>, number: u64, text: &[u8]) -> bool
+        requires whole { IsWholeOf whole.now (strings_of self.now) }
+        requires number { number ≡ number_behind 0 text.now }
         ensures { IsTrue result ↔ Contains (strings_of self.now) text.now }
     {
-        let mut link = whole.chains.first[chain_of(text)];
+        let mut link = whole.chains.first[chain_of(number)];
         while link > 0 {
             if is_text(&self.strings[link - 1], text) {
                 return true;
@@ -37,79 +40,79 @@ impl<A: Allocator> StringSet<A> {
         false
     }
 
-    /// Whether a string of this length stands at a place.
-    fn stands_whole(&self, whole: &WholeStrings<A>, len: usize, bytes: &[u8], place: usize) -> bool
+    /// Whether a string of this length stands at a place and ends where a match may.
+    #[inline(always)]
+    fn stands_whole(
+        &self,
+        whole: &WholeStrings<A>,
+        len: usize,
+        bounds: Bounds,
+        bytes: &[u8],
+        place: usize,
+        prefix: &mut Prefix,
+    ) -> bool
         requires whole { IsWholeOf whole.now (strings_of self.now) }
         requires place { place ≤ length bytes.now }
-        ensures { IsTrue result ↔ StandsSo (strings_of self.now) bytes.now place len }
+        requires prefix { IsPrefix bytes.now place prefix.old }
+        ensures stands { IsTrue result ↔ StandsSo (strings_of self.now) bounds bytes.now place len }
+        ensures prefix { IsPrefix bytes.now place prefix.new }
     {
-        len <= bytes.len() - place && self.has_whole(whole, &bytes[place..place + len])
+        if !fits(bounds, len, bytes, place) {
+            return false;
+        }
+        prefix.reach(len, bytes, place);
+        self.has_whole(whole, prefix.number, &bytes[place..place + len])
     }
 
-    /// Whether some string stands at a place.
+    /// Whether some string stands at a place, where a match may begin, and ends where one may.
     pub(crate) fn look_whole(
         &self,
         whole: &WholeStrings<A>,
+        bounds: Bounds,
         bytes: &[u8],
         place: usize,
         budget: &mut Budget,
     ) -> Look
         requires whole { IsWholeOf whole.now (strings_of self.now) }
         requires place { place ≤ length bytes.now }
-        ensures look { IsLook (SomeStands (strings_of self.now) bytes.now place) budget.new.left result }
+        requires begins { MayBegin bounds bytes.now place }
+        ensures look { IsLook (SomeHit (strings_of self.now) bounds bytes.now place) budget.new.left result }
         ensures less { budget.new.left ≤ budget.old.left }
         ensures cost { budget.old.left ≤ budget.new.left + work (strings_of self.now) }
     {
+        let mut prefix = Prefix::empty();
         for at in 0..whole.lengths.len() {
             let len = whole.lengths[at];
             if budget.left == 0 {
                 return Look::GaveUp;
             }
-            budget.spend(1 + len / STRIDE);
-            if self.stands_whole(whole, len, bytes, place) {
+            budget.spend(prefix.cost(bounds, len, bytes, place));
+            if self.stands_whole(whole, len, bounds, bytes, place, &mut prefix) {
                 return Look::Stands;
             }
         }
         Look::NoneStands
     }
 
-    /// The length of the strings that are looked for, if one of them stands at a place and it is greater than another
-    /// length; else that one.
-    fn longer_whole(
-        &self,
-        whole: &WholeStrings<A>,
-        longest: usize,
-        len: usize,
-        bytes: &[u8],
-        place: usize,
-    ) -> usize
-        requires whole { IsWholeOf whole.now (strings_of self.now) }
-        requires place { place ≤ length bytes.now }
-        ensures low { longest ≤ result }
-        ensures own { StandsSo (strings_of self.now) bytes.now place len → len ≤ result }
-        ensures stands { longest < result → StandsSo (strings_of self.now) bytes.now place result }
-    {
-        if len > longest && self.stands_whole(whole, len, bytes, place) {
-            len
-        } else {
-            longest
-        }
-    }
-
-    /// The length of the longest string that stands at a place, if any does.
+    /// The length of the longest string that stands at a place and ends where a match may, if any does.
     pub(crate) fn longest_whole(
         &self,
         whole: &WholeStrings<A>,
+        bounds: Bounds,
         bytes: &[u8],
         place: usize,
     ) -> Option<usize>
         requires whole { IsWholeOf whole.now (strings_of self.now) }
         requires place { place ≤ length bytes.now }
-        ensures { IsLongestAt (strings_of self.now) bytes.now place result }
+        ensures { IsLongestAt (strings_of self.now) bounds bytes.now place result }
     {
+        let mut prefix = Prefix::empty();
         let mut longest = 0;
         for at in 0..whole.lengths.len() {
-            longest = self.longer_whole(whole, longest, whole.lengths[at], bytes, place);
+            let len = whole.lengths[at];
+            if self.stands_whole(whole, len, bounds, bytes, place, &mut prefix) {
+                longest = len.max(longest);
+            }
         }
         if longest > 0 { Some(longest) } else { None }
     }

@@ -1,23 +1,26 @@
-//! The longest string that stands at a place.
+//! The longest string that stands at a place and ends where a match may.
 ghost use Rattle.std.specs.Prelude.{◌≡◌, ◌<◌, ◌≤◌, ◌↔◌, length, IsTrue, Contains};
-ghost use Rattle.memchr.specs.Find.{OccursAt};
+ghost use Rattle.pg_strings.specs.Sets.{StandsAs};
 ghost use Rattle.pg_strings.specs.Outcomes.{strings_of, IsLongestAt};
 ghost use Rattle.pg_strings.specs.Short.{IsLongestShort};
 
 use crate::compare::stands;
 use crate::key::{SHARE, last_key_at};
 use crate::set::StringSet;
+use crate::whole::number_of;
+use pg_pattern::Bounds;
 use std::alloc::Allocator;
 
-/// The length of a string that stands at a place, if it is greater than another length; else that one.
+/// The length of a string that stands at a place and ends where a match may, if it is greater than another length; else
+/// that one.
 #[inline(always)]
-fn longer(longest: usize, string: &[u8], bytes: &[u8], place: usize) -> usize
+fn longer(longest: usize, string: &[u8], bounds: Bounds, bytes: &[u8], place: usize) -> usize
     requires { place ≤ length bytes.now }
     ensures low { longest ≤ result }
-    ensures own { OccursAt bytes.now string.now place → length string.now ≤ result }
-    ensures stands { longest < result → OccursAt bytes.now string.now place × (length string.now ≡ result) }
+    ensures own { StandsAs bounds bytes.now place string.now → length string.now ≤ result }
+    ensures stands { longest < result → StandsAs bounds bytes.now place string.now × (length string.now ≡ result) }
 {
-    if string.len() > longest && stands(string, bytes, place) {
+    if string.len() > longest && stands(string, bounds, bytes, place) {
         string.len()
     } else {
         longest
@@ -25,31 +28,33 @@ fn longer(longest: usize, string: &[u8], bytes: &[u8], place: usize) -> usize
 }
 
 impl<A: Allocator> StringSet<A> {
-    /// The length of the longest string of one or two bytes that stands at a place, or 0 where none stands.
+    /// The length of the longest string of one or two bytes that stands at a place and ends where a match may, or 0
+    /// where none does.
     #[inline(always)]
-    pub(crate) fn short_at(&self, bytes: &[u8], place: usize) -> usize
+    pub(crate) fn short_at(&self, bounds: Bounds, bytes: &[u8], place: usize) -> usize
         requires { place ≤ length bytes.now }
-        ensures { IsLongestShort (strings_of self.now) bytes.now place result }
+        ensures { IsLongestShort (strings_of self.now) bounds bytes.now place result }
     {
         match &self.short {
-            Some(short) => short.longest_at(bytes, place),
+            Some(short) => short.longest_at(bounds, bytes, place),
             None => 0,
         }
     }
 
-    /// The length of the longest string that stands at a place, if any does.
-    pub fn longest_at(&self, bytes: &[u8], place: usize) -> Option<usize>
+    /// The length of the longest string that stands at a place and ends where a match may, if any does. Each string is
+    /// compared at most once.
+    pub fn longest_at(&self, bounds: Bounds, bytes: &[u8], place: usize) -> Option<usize>
         requires { place ≤ length bytes.now }
-        ensures { IsLongestAt (strings_of self.now) bytes.now place result }
+        ensures { IsLongestAt (strings_of self.now) bounds bytes.now place result }
     {
         let key = last_key_at(self.factor, bytes, place);
         if let Some(whole) = self.whole_for(key / SHARE) {
-            return self.longest_whole(whole, bytes, place);
+            return self.longest_whole(whole, bounds, bytes, place);
         }
-        let mut longest = self.short_at(bytes, place);
+        let mut longest = self.short_at(bounds, bytes, place);
         let mut link = self.chains.first[key / SHARE];
         while link > 0 {
-            longest = longer(longest, &self.strings[link - 1], bytes, place);
+            longest = longer(longest, &self.strings[link - 1], bounds, bytes, place);
             link = self.chains.next[link - 1];
         }
         if longest > 0 { Some(longest) } else { None }
@@ -61,11 +66,8 @@ impl<A: Allocator> StringSet<A> {
     {
         let key = last_key_at(self.factor, line, 0);
         if let Some(whole) = self.whole_for(key / SHARE) {
-            return self.has_whole(whole, line);
+            return self.has_whole(whole, number_of(line), line);
         }
-        match self.longest_at(line, 0) {
-            Some(len) => len == line.len(),
-            None => false,
-        }
+        self.longest_at(Bounds::Whole, line, 0).is_some()
     }
 }

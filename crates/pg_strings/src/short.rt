@@ -3,7 +3,9 @@ ghost use Rattle.std.specs.Prelude.{◌≡◌, ℕ, ◌+◌, ◌*◌, ◌<◌, �
 ghost use Rattle.pg_strings.specs.Keys.{items_of};
 ghost use Rattle.pg_strings.specs.Short.{AreLonger, AreTables, IsLongestShort, KnowsShort};
 
+use crate::compare::fits;
 use crate::key::window;
+use pg_pattern::Bounds;
 use std::alloc::{AllocError, Allocator, Global};
 
 /// How many bytes there are.
@@ -93,29 +95,27 @@ impl<A: Allocator> ShortStrings<A> {
         requires singles { length self.now.singles.items ≡ 256 }
         requires pairs { length self.now.pairs.items ≡ 65536 }
         ensures { (strings : List (List ℕ)) → AreTables self.now.singles.items self.now.pairs.items strings
-            → result ≡ false → IsLongestShort strings bytes.now place 0 }
+            → result ≡ false → IsLongestShort strings Bounds.Any bytes.now place 0 }
     {
         let window = window(bytes, place);
         self.singles[(window % 256) as usize] | self.pairs[(window % 65_536) as usize]
     }
 
-    /// The length of the longest of them that stands at a place, or 0 where none stands.
+    /// The length of the longest of them that stands at a place and ends where a match may, or 0 where none does.
     #[inline(always)]
-    pub fn longest_at(&self, bytes: &[u8], place: usize) -> usize
+    pub fn longest_at(&self, bounds: Bounds, bytes: &[u8], place: usize) -> usize
         requires place { place ≤ length bytes.now }
         requires singles { length self.now.singles.items ≡ 256 }
         requires pairs { length self.now.pairs.items ≡ 65536 }
         ensures { (strings : List (List ℕ)) → AreTables self.now.singles.items self.now.pairs.items strings
-            → IsLongestShort strings bytes.now place result }
+            → IsLongestShort strings bounds bytes.now place result }
     {
-        let left = bytes.len() - place;
-        if left == 0 {
-            return 0;
-        }
-        let first = bytes[place];
-        if left >= 2 && self.pairs[pair_of(first, bytes[place + 1])] {
+        if fits(bounds, 2, bytes, place) && self.pairs[pair_of(bytes[place], bytes[place + 1])] {
             return 2;
         }
-        if self.singles[first as usize] { 1 } else { 0 }
+        if fits(bounds, 1, bytes, place) && self.singles[bytes[place] as usize] {
+            return 1;
+        }
+        0
     }
 }

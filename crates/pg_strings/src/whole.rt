@@ -1,10 +1,12 @@
 //! Strings that are known by all their bytes, for lists of which many begin alike.
-ghost use Rattle.std.specs.Prelude.{◌≡◌, ◌<◌, ◌++◌, ◌∷◌, [], List, ℕ, length, map, IfOk, IfSome, OnOk};
+ghost use Rattle.std.specs.Prelude.{◌≡◌, ◌+◌, ◌<◌, ◌≤◌, ◌++◌, ◌∷◌, [], List, ℕ, length, map, IfOk, IfSome, OnOk};
 ghost use Rattle.pg_strings.specs.Keys.{items_of};
-ghost use Rattle.pg_strings.specs.Whole.{IsWholeOf, number_behind, whole_home};
+ghost use Rattle.pg_strings.specs.Whole.{IsPrefix, IsWholeOf, home_by, number_behind};
 
 use crate::chains::Chains;
+use crate::compare::{STRIDE, fits};
 use crate::key::MIX;
+use pg_pattern::Bounds;
 use std::alloc::{AllocError, Allocator, Global};
 
 /// A chain of more strings than these is long.
@@ -13,30 +15,82 @@ const LONG_CHAIN: u32 = 32;
 /// To look for one length by all its bytes takes as long as to compare so many strings.
 const PER_LENGTH: u32 = 4;
 
-/// A number of all bytes of a text.
-fn number_of(text: &[u8]) -> u64
-    ensures { result ≡ number_behind 0 text.now }
+/// A number of the bytes of a text, behind others that have this one.
+fn number_behind(before: u64, text: &[u8]) -> u64
+    ensures { result ≡ number_behind before text.now }
 {
-    let mut number = 0u64;
+    let mut number = before;
     for byte in text {
         number = number.wrapping_mul(MIX).wrapping_add(*byte as u64);
     }
     number
 }
 
-/// The chain of a text, by all its bytes.
-pub(crate) fn chain_of(text: &[u8]) -> usize
-    ensures few { result < 8192 }
-    ensures value { result ≡ whole_home text.now }
+/// A number of all bytes of a text.
+pub(crate) fn number_of(text: &[u8]) -> u64
+    ensures { result ≡ number_behind 0 text.now }
 {
-    (number_of(text).wrapping_mul(MIX) / 0x0008_0000_0000_0000) as usize
+    number_behind(0, text)
+}
+
+/// The chain of the strings that have a number.
+pub(crate) fn chain_of(number: u64) -> usize
+    ensures few { result < 8192 }
+    ensures value { result ≡ home_by number }
+{
+    (number.wrapping_mul(MIX) / 0x0008_0000_0000_0000) as usize
+}
+
+/// The number of so many bytes from a place on. That of more bytes follows from it.
+#[derive(Clone, Copy)]
+pub(crate) struct Prefix {
+    len: usize,
+    pub number: u64,
+}
+
+impl Prefix {
+    /// That of no byte.
+    pub fn empty() -> Prefix
+        ensures { (bytes : List ℕ) (place : ℕ) → place ≤ length bytes → IsPrefix bytes place result }
+    {
+        Prefix { len: 0, number: 0 }
+    }
+
+    /// What it costs to look for a string of this length, if one may stand there and end where a match may.
+    #[inline(always)]
+    pub fn cost(&self, bounds: Bounds, len: usize, bytes: &[u8], place: usize) -> usize
+        requires { place ≤ length bytes.now }
+        ensures { result ≤ 1 + len }
+    {
+        if fits(bounds, len, bytes, place) {
+            1 + len.saturating_sub(self.len) / STRIDE
+        } else {
+            0
+        }
+    }
+
+    /// Goes on to so many bytes from the place on. Only where these are fewer than before all are read again.
+    #[inline(always)]
+    pub fn reach(&mut self, len: usize, bytes: &[u8], place: usize)
+        requires fits { place + len ≤ length bytes.now }
+        requires prefix { IsPrefix bytes.now place self.old }
+        ensures len { self.new.len ≡ len }
+        ensures prefix { IsPrefix bytes.now place self.new }
+    {
+        if len < self.len {
+            self.number = number_of(&bytes[place..place + len]);
+        } else {
+            self.number = number_behind(self.number, &bytes[place + self.len..place + len]);
+        }
+        self.len = len;
+    }
 }
 
 /// Tables of strings by all their bytes. Of strings that begin alike those of one length are told apart at once, where
 /// a key of the first bytes is the same for all.
 #[derive(Drop)]
 pub(crate) struct WholeStrings<A: Allocator = Global> {
-    /// The lengths of the strings, each once.
+    /// The lengths of the strings, each once, the least first.
     pub lengths: Vec<usize, A>,
     /// Chains of strings that may have the same bytes.
     pub chains: Chains<A>,
@@ -60,7 +114,7 @@ impl<A: Allocator> WholeStrings<A> {
         if !self.lengths.contains(&len) {
             self.lengths.push(len)?;
         }
-        self.chains.push(chain_of(string))?;
+        self.chains.push(chain_of(number_of(string)))?;
         Ok(())
     }
 
@@ -83,6 +137,7 @@ impl<A: Allocator> WholeStrings<A> {
         for place in 0..strings.len() {
             whole.push(&strings[place])?;
         }
+        whole.lengths.sort_unstable();
         Ok(whole)
     }
 

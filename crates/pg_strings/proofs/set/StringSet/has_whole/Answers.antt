@@ -1,8 +1,8 @@
 use Rattle.std.proofs.Common.{◌≡◌, ◌-◌, ◌<◌, ℕ, List, [], length, map, get_or, true, false, arith, refl, sym}
-use Rattle.std.proofs.Common.{subst, ◌∙◌}
+use Rattle.std.proofs.Common.{subst, ap, ◌∙◌}
 use Rattle.std.proofs.lemmas.List.{length-map}
 use Rattle.pg_strings.specs.Keys.{items_of}
-use Rattle.pg_strings.specs.Whole.{whole_home}
+use Rattle.pg_strings.specs.Whole.{home_by, whole_home}
 use Rattle.pg_strings.proofs.WalkLemmas.{IsWalked, walk_first, walk_next, link_falls}
 use Rattle.pg_strings.proofs.PlaceLemmas.{string_at}
 use Rattle.pg_strings.proofs.WholeLemmas.{none_is, one_is}
@@ -14,11 +14,11 @@ loop-link-init g c =
     let P : List ℕ → Type 0 = λ string. string ≡ c.args.text.now → ⊥ in
     let whole = c.args.whole.now in
     let walk = walk_first P whole_home (map items_of vecs) whole.chains.first.items whole.chains.next.items
-    c.chain_of.result c.index-link.result.now c.chain_of.ensures.few c.requires.linked c.index-link.ensures in
+    c.chain_of.result c.index-link.result.now c.chain_of.ensures.few c.requires.whole.linked c.index-link.ensures in
     record {
       within = omega (arith, walk.0, length-map vecs items_of);
       walked = subst (λ h. IsWalked P whole_home (map items_of vecs) c.index-link.result.now h)
-          c.chain_of.ensures.value walk.1;
+          (c.chain_of.ensures.value ∙ ap home_by c.requires.number) walk.1;
     }
 
 pub loop-link-smaller : goal.loop-link-smaller
@@ -27,7 +27,7 @@ loop-link-smaller g c =
     let whole = c.args.whole.now in
     let within = c.loop-link.invariant.within in
     link_falls whole_home (map items_of vecs) whole.chains.first.items whole.chains.next.items c.loop-link.link
-    c.index-link-in-loop-link.result.now c.requires.linked c.loop-link-test.true
+    c.index-link-in-loop-link.result.now c.requires.whole.linked c.loop-link-test.true
     (omega (arith, within, length-map vecs items_of)) c.index-link-in-loop-link.ensures
 
 pub loop-link-preserved : goal.loop-link-preserved
@@ -48,7 +48,7 @@ loop-link-preserved g c =
     ∙ c.if-is_text.false in
     cc in
     let walk = walk_next P whole_home strings whole.chains.first.items whole.chains.next.items c.loop-link.link
-    (whole_home text) c.index-link-in-loop-link.result.now c.requires.linked some (omega (arith, within, len))
+    (whole_home text) c.index-link-in-loop-link.result.now c.requires.whole.linked some (omega (arith, within, len))
     c.loop-link.invariant.walked last c.index-link-in-loop-link.ensures in
     record { within = omega (arith, walk.0, within, some); walked = walk.1 }
 

@@ -2,12 +2,11 @@ use Rattle.std.proofs.Common.{◌≡◌, ◌-◌, ◌<◌, ◌≤◌, ℕ, List,
 use Rattle.std.proofs.Common.{subst, get_or, ◌∙◌, inl, inr, drop}
 use Rattle.std.proofs.lemmas.Bool.{cases_lt}
 use Rattle.std.proofs.lemmas.List.{get_or_default, length-map}
-use Rattle.memchr.specs.Find.{OccursAt}
 use Rattle.pg_strings.specs.Keys.{items_of, key, home}
-use Rattle.pg_strings.specs.Short.{IsLongestShort, SomeLongStands}
+use Rattle.pg_strings.specs.Sets.{StandsAs}
 use Rattle.pg_strings.proofs.WalkLemmas.{IsWalked, walk_first, walk_next, walk_ends, walk_weaker, link_falls}
 use Rattle.pg_strings.proofs.PlaceLemmas.{string_at}
-use Rattle.pg_strings.proofs.LongestLemmas.{kept_stands}
+use Rattle.pg_strings.proofs.LongestLemmas.{short_kept}
 use Rattle.pg_strings.proofs.ShortLemmas.{none_stands}
 use Rattle.pg_strings.proofs.set.StringSet.longest_at.Goals as goal
 
@@ -17,14 +16,14 @@ loop-link-init g c =
     let vecs = set.strings.items in
     let h = c.last_key_at-key.result / 16 in
     let short = c.short_at-longest.result in
-    let P : List ℕ → Type 0 = λ string. OccursAt c.args.bytes.now string c.args.place → length string ≤ short in
+    let P : List ℕ → Type 0 =
+    λ string. StandsAs c.args.bounds c.args.bytes.now c.args.place string → length string ≤ short in
     let walk = walk_first P (home set.factor) (map items_of vecs) set.chains.first.items set.chains.next.items h
     c.index-link.result.now (omega (arith, c.last_key_at-key.ensures.few)) set.linked c.index-link.ensures in
     record {
       within = omega (arith, walk.0, length-map vecs items_of);
       walked = walk.1;
-      stands = c.short_at-longest.ensures.stands;
-      short = c.short_at-longest.ensures.longest;
+      short = c.short_at-longest.ensures;
     }
 
 pub loop-link-smaller : goal.loop-link-smaller
@@ -40,6 +39,7 @@ pub loop-link-preserved : goal.loop-link-preserved
 loop-link-preserved g c =
     let set = c.args.self.now in
     let bytes = c.args.bytes.now in
+    let bounds = c.args.bounds in
     let place = c.args.place in
     let vecs = set.strings.items in
     let strings = map items_of vecs in
@@ -53,40 +53,37 @@ loop-link-preserved g c =
     string_at vecs i c.index.result.now less c.index.ensures ∙ sym c.deref.ensures.value in
     let longer = c.longer-longest.ensures in
     let kept = c.longer-longest.result in
-    let P : List ℕ → Type 0 = λ s. OccursAt bytes s place → length s ≤ kept in
-    let walked = walk_weaker (λ s. OccursAt bytes s place → length s ≤ c.loop-link.longest) P (home set.factor) strings
-    c.loop-link.link h (λ s short occurs. omega (arith, short occurs, longer.low)) c.loop-link.invariant.walked in
+    let P : List ℕ → Type 0 = λ s. StandsAs bounds bytes place s → length s ≤ kept in
+    let walked = walk_weaker (λ s. StandsAs bounds bytes place s → length s ≤ c.loop-link.longest) P (home set.factor)
+    strings c.loop-link.link h (λ s short occurs. omega (arith, short occurs, longer.low)) c.loop-link.invariant.walked in
     let walk = walk_next P (home set.factor) strings set.chains.first.items set.chains.next.items c.loop-link.link h
     c.index-link-in-loop-link.result.now set.linked some (omega (arith, within, len)) walked
     (subst P (sym string) longer.own) c.index-link-in-loop-link.ensures in
     record {
       within = omega (arith, walk.0, within, some);
       walked = walk.1;
-      stands = kept_stands strings bytes place i c.loop-link.longest c.deref.result.now kept (omega
-          (arith, less, len)) string
-          longer.low longer.stands c.loop-link.invariant.stands;
-      short = λ k d low occurs few.
-          let before = c.loop-link.invariant.short k d low occurs few in
-          omega (arith, before, longer.low);
+      short = short_kept strings bounds bytes place i c.loop-link.longest c.deref.result.now kept
+          (omega (arith, less, len)) string longer.low longer.stands c.loop-link.invariant.short;
     }
 
 pub returns-then-longest-gt0 : goal.returns-then-longest-gt0
 returns-then-longest-gt0 g c =
     let set = c.args.self.now in
     let bytes = c.args.bytes.now in
+    let bounds = c.args.bounds in
     let strings = map items_of set.strings.items in
     let h = c.last_key_at-key.result / 16 in
     let at : h ≡ key set.factor (drop c.args.place bytes) / 16 = ap (λ n. n / 16) c.last_key_at-key.ensures.value in
-    let P : List ℕ → Type 0 = λ s. OccursAt bytes s c.args.place → length s ≤ c.loop-link.longest in
+    let P : List ℕ → Type 0 = λ s. StandsAs bounds bytes c.args.place s → length s ≤ c.loop-link.longest in
     let test = c.loop-link-test.false in
     let end : c.loop-link.link ≡ 0 = omega (arith, test) in
     let walked = subst (λ link. IsWalked P (home set.factor) strings link h) end c.loop-link.invariant.walked in (
-      c.loop-link.invariant.stands c.if-longest-gt0.true,
-      λ k d less occurs. elim (cases_lt (length (get_or strings k d)) 3) [
-        | inl before ↦ c.loop-link.invariant.short k d less occurs (omega (arith, before))
+      c.loop-link.invariant.short.stands c.if-longest-gt0.true,
+      λ k d less stands. elim (cases_lt (length (get_or strings k d)) 3) [
+        | inl before ↦ c.loop-link.invariant.short.longest k d less stands (omega (arith, before))
         | inr behind ↦
             walk_ends P set.factor set.width strings bytes c.args.place h set.weighs set.long at walked k
-            (get_or strings k d) less (get_or_default strings k (get_or strings k d) d less) behind occurs occurs
+            (get_or strings k d) less (get_or_default strings k (get_or strings k d) d less) behind stands.0 stands
       ],
     )
 
@@ -94,21 +91,18 @@ pub returns-else-longest-gt0 : goal.returns-else-longest-gt0
 returns-else-longest-gt0 g c =
     let set = c.args.self.now in
     let bytes = c.args.bytes.now in
+    let bounds = c.args.bounds in
     let strings = map items_of set.strings.items in
     let h = c.last_key_at-key.result / 16 in
     let at : h ≡ key set.factor (drop c.args.place bytes) / 16 = ap (λ n. n / 16) c.last_key_at-key.ensures.value in
-    let P : List ℕ → Type 0 = λ s. OccursAt bytes s c.args.place → length s ≤ c.loop-link.longest in
+    let P : List ℕ → Type 0 = λ s. StandsAs bounds bytes c.args.place s → length s ≤ c.loop-link.longest in
     let test = c.loop-link-test.false in
     let end : c.loop-link.link ≡ 0 = omega (arith, test) in
     let walked = subst (λ link. IsWalked P (home set.factor) strings link h) end c.loop-link.invariant.walked in
     let test' = c.if-longest-gt0.false in
     let none : c.loop-link.longest ≡ 0 = omega (arith, test') in
-    let longest : IsLongestShort strings bytes c.args.place c.loop-link.longest = record {
-      stands = λ some. absurd (omega (arith, some, none));
-      longest = c.loop-link.invariant.short;
-    } in
-    let no_long = λ (some : SomeLongStands strings bytes c.args.place).
-    let short = walk_ends P set.factor set.width strings bytes c.args.place h set.weighs set.long at walked some.0
-    some.1 some.2 some.3 some.4.0 some.4.1 some.4.1 in
-    absurd (omega (arith, short, none, some.4.0)) in
-    none_stands set.width strings bytes c.args.place c.loop-link.longest set.long longest none no_long
+    none_stands set.width strings bounds bytes c.args.place c.loop-link.longest set.long c.loop-link.invariant.short
+    none (λ k d less stands long.
+    let short = walk_ends P set.factor set.width strings bytes c.args.place h set.weighs set.long at walked k
+    (get_or strings k d) less (get_or_default strings k (get_or strings k d) d less) long stands.0 stands in
+    absurd (omega (arith, short, none, long)))

@@ -1,8 +1,8 @@
 use Rattle.std.proofs.Common.{◌≡◌, ◌+◌, ◌-◌, ◌<◌, ℕ, List, length, map, false, true, ◌/◌, arith, sym, ap, ◌∙◌}
 use Rattle.std.proofs.Common.{subst, get_or, []}
-use Rattle.std.proofs.lemmas.List.{length-map}
-use Rattle.memchr.specs.Find.{OccursAt}
+use Rattle.std.proofs.lemmas.List.{get_or_default, length-map}
 use Rattle.pg_strings.specs.Keys.{items_of, home}
+use Rattle.pg_strings.specs.Sets.{StandsAs}
 use Rattle.pg_strings.proofs.WalkLemmas.{IsWalked, walk_first, walk_next, walk_ends, link_falls}
 use Rattle.pg_strings.proofs.WalkLemmas.{spent_more, spent_all}
 use Rattle.pg_strings.proofs.PlaceLemmas.{stands, string_at}
@@ -15,7 +15,7 @@ loop-link-init g c =
     let vecs = set.strings.items in
     let strings = map items_of vecs in
     let h = c.last_key_at-key.result / 16 in
-    let P : List ℕ → Type 0 = λ string. OccursAt c.args.bytes.now string c.args.place → ⊥ in
+    let P : List ℕ → Type 0 = λ string. StandsAs c.args.bounds c.args.bytes.now c.args.place string → ⊥ in
     let walk = walk_first P (home set.factor) strings set.chains.first.items set.chains.next.items h
     c.index-link.result.now (omega (arith, c.last_key_at-key.ensures.few)) set.linked c.index-link.ensures in
     record {
@@ -39,7 +39,7 @@ loop-link-preserved g c =
     let set = c.args.self.now in
     let vecs = set.strings.items in
     let strings = map items_of vecs in
-    let P : List ℕ → Type 0 = λ string. OccursAt c.args.bytes.now string c.args.place → ⊥ in
+    let P : List ℕ → Type 0 = λ string. StandsAs c.args.bounds c.args.bytes.now c.args.place string → ⊥ in
     let h = c.last_key_at-key.result / 16 in
     let i = c.loop-link.link - 1 in
     let some = c.loop-link-test.true in
@@ -49,7 +49,7 @@ loop-link-preserved g c =
     let string = string_at vecs i c.index.result.now less c.index.ensures in
     let last : P (get_or strings i []) = λ occurs.
     let yes : true ≡ false = sym (c.stands_within.ensures.stands.1 (subst
-    (λ t. OccursAt c.args.bytes.now t c.args.place)
+    (StandsAs c.args.bounds c.args.bytes.now c.args.place)
     (string ∙ sym c.deref.ensures.value) occurs)) ∙ c.if-stands_within.false in
     cc in
     let walk = walk_next P (home set.factor) strings set.chains.first.items set.chains.next.items c.loop-link.link h
@@ -79,10 +79,13 @@ returns-then-stands_within-clause-look g c =
     let i = c.loop-link.link - 1 in
     let within = c.loop-link.invariant.within in
     let less : i < length vecs = omega (arith, within, c.loop-link-test.true) in
-    let at = string_at vecs i c.index.result.now less c.index.ensures in
-    stands (map items_of vecs) c.args.bytes.now c.args.place i (omega (arith, less, length-map vecs items_of))
-    (subst (λ t. OccursAt c.args.bytes.now t c.args.place) (c.deref.ensures.value ∙ sym at)
-    (c.stands_within.ensures.stands.0 c.if-stands_within.true))
+    let at = string_at vecs i c.index.result.now less c.index.ensures in (
+      let begins : c.may_begin.result ≡ true = cc in c.may_begin.ensures.0 begins,
+      stands (map items_of vecs) c.args.bounds c.args.bytes.now c.args.place i
+          (omega (arith, less, length-map vecs items_of))
+          (subst (StandsAs c.args.bounds c.args.bytes.now c.args.place) (c.deref.ensures.value ∙ sym at)
+          (c.stands_within.ensures.stands.0 c.if-stands_within.true)),
+    )
 
 pub returns-then-stands_within-clause-cost : goal.returns-then-stands_within-clause-cost
 returns-then-stands_within-clause-cost g c =
@@ -104,17 +107,20 @@ returns-clause-look g c =
     let set = c.args.self.now in
     let strings = map items_of set.strings.items in
     let h = c.last_key_at-key.result / 16 in
-    let P : List ℕ → Type 0 = λ string. OccursAt c.args.bytes.now string c.args.place → ⊥ in
+    let P : List ℕ → Type 0 = λ string. StandsAs c.args.bounds c.args.bytes.now c.args.place string → ⊥ in
     let test = c.loop-link-test.false in
     let end : c.loop-link.link ≡ 0 = omega (arith, test) in
     let walked = subst (λ link. IsWalked P (home set.factor) strings link h) end c.loop-link.invariant.walked in
     let test' = c.if-short_at-gt0.false in
-    none_stands set.width strings c.args.bytes.now c.args.place c.short_at.result set.long c.short_at.ensures
-    (omega (arith, test'))
-    (λ some. walk_ends P set.factor set.width strings c.args.bytes.now c.args.place h set.weighs set.long
-    (ap (λ k. k / 16) c.last_key_at-key.ensures.value) walked some.0 some.1 some.2 some.3 some.4.0 some.4.1 some.4.1)
+    λ hit. none_stands set.width strings c.args.bounds c.args.bytes.now c.args.place c.short_at.result set.long
+    c.short_at.ensures (omega (arith, test'))
+    (λ k d less stands long. walk_ends P set.factor set.width strings c.args.bytes.now c.args.place h set.weighs
+    set.long (ap (λ k. k / 16) c.last_key_at-key.ensures.value) walked k (get_or strings k d) less
+    (get_or_default strings k (get_or strings k d) d less) long stands.0 stands) hit.1
 
 pub returns-then-short_at-gt0-clause-look : goal.returns-then-short_at-gt0-clause-look
-returns-then-short_at-gt0-clause-look g c =
-    short_stands (map items_of c.args.self.now.strings.items) c.args.bytes.now c.args.place c.short_at.result
-    c.short_at.ensures c.if-short_at-gt0.true
+returns-then-short_at-gt0-clause-look g c = (
+  let begins : c.may_begin.result ≡ true = cc in c.may_begin.ensures.0 begins,
+  short_stands (map items_of c.args.self.now.strings.items) c.args.bounds c.args.bytes.now c.args.place
+      c.short_at.result c.short_at.ensures c.if-short_at-gt0.true,
+)

@@ -1,6 +1,6 @@
 use Rattle.std.proofs.Common.{◌≤◌, ◌+◌, ◌/◌, length, map, drop}
 use Rattle.std.specs.List.{sum_by}
-use Rattle.memchr.specs.Find.{OccursAt}
+use Rattle.pg_strings.specs.Sets.{StandsAs}
 use Rattle.pg_strings.specs.Keys.{items_of, home}
 use Rattle.pg_strings.proofs.WalkLemmas.{IsWalked}
 use Rattle.pg_strings.proofs.set.StringSet.look_at.Given as goal
@@ -8,7 +8,7 @@ use Rattle.pg_strings.proofs.set.StringSet.look_at.Given as goal
 abbrev pub invariant-loop-link : goal.invariant-loop-link
 invariant-loop-link g l = record {
   within : l.link ≤ length l.self.strings.items;
-  walked : IsWalked (λ string. OccursAt l.bytes string l.place → ⊥) (home l.self.factor)
+  walked : IsWalked (λ string. StandsAs l.bounds l.bytes l.place string → ⊥) (home l.self.factor)
       (map items_of l.self.strings.items) l.link (l.key / 16);
   less : l.budget.left ≤ l.fn.budget.left;
   cost : l.fn.budget.left ≤ l.budget.left

@@ -8,6 +8,14 @@ use Rattle.pg_strings.specs.Sets.{StandsSo}
 use Rattle.pg_strings.proofs.WholeLemmas.{NoneOf, none_at_all}
 use Rattle.pg_strings.proofs.set.StringSet.look_whole.Goals as goal
 
+pub loop-at-init : goal.loop-at-init
+loop-at-init g c = record {
+  prefix = c.empty-prefix.ensures c.args.bytes.now c.args.place c.requires.place;
+  none = λ i low. absurd (omega (arith, low));
+  less = omega arith;
+  cost = omega arith;
+}
+
 pub loop-at-preserved : goal.loop-at-preserved
 loop-at-preserved g c =
     let strings = map items_of c.args.self.now.strings.items in
@@ -20,29 +28,30 @@ loop-at-preserved g c =
     let cost = c.loop-at.invariant.cost in
     let more = sum_by_more (λ n. 1 + n) lengths at 0 less in
     record {
+      prefix = c.stands_whole.ensures.prefix;
       none = λ i low there. elim (cases_lt i at) [
         | inl earlier ↦ c.loop-at.invariant.none i earlier there
         | inr last ↦
             let e : i ≡ at = omega (arith, low, last) in
-            let here = subst (StandsSo strings c.args.bytes.now c.args.place)
+            let here = subst (StandsSo strings c.args.bounds c.args.bytes.now c.args.place)
             (ap (λ n. get_or lengths n 0) e ∙ sym is) there in
-            let yes : true ≡ false = sym (c.stands_whole.ensures.1 here) ∙ c.if-stands_whole.false in
+            let yes : true ≡ false = sym (c.stands_whole.ensures.stands.1 here) ∙ c.if-stands_whole.false in
             absurd (cc)
       ];
       less = omega (arith, c.spend.ensures, before);
-      cost = omega (arith, c.spend.ensures, cost, more, is);
+      cost = omega (arith, c.spend.ensures, c.cost.ensures, cost, more, is);
     }
 
 pub returns-clause-look : goal.returns-clause-look
-returns-clause-look g c =
+returns-clause-look g c = λ hit.
     let strings = map items_of c.args.self.now.strings.items in
     let whole = c.args.whole.now in
     let lengths = whole.lengths.items in
     let last = c.loop-at.auto.at-end in
-    none_at_all lengths whole.chains.first.items whole.chains.next.items strings c.args.bytes.now c.args.place
-    c.requires.whole
-    (subst (NoneOf strings c.args.bytes.now c.args.place lengths)
-    (omega (arith, last, c.loop-at-test.false, c.len-at-end.ensures)) c.loop-at.invariant.none)
+    none_at_all lengths whole.chains.first.items whole.chains.next.items strings c.args.bounds c.args.bytes.now
+    c.args.place c.requires.whole
+    (subst (NoneOf strings c.args.bounds c.args.bytes.now c.args.place lengths)
+    (omega (arith, last, c.loop-at-test.false, c.len-at-end.ensures)) c.loop-at.invariant.none) hit.1
 
 pub returns-then-stands_whole-clause-cost : goal.returns-then-stands_whole-clause-cost
 returns-then-stands_whole-clause-cost g c =
@@ -54,4 +63,4 @@ returns-then-stands_whole-clause-cost g c =
     let cost = c.loop-at.invariant.cost in
     let more = sum_by_more_le (λ n. 1 + n) lengths at 0 less in
     let worth = c.requires.whole.worth in
-    omega (arith, c.spend.ensures, cost, more, is, worth)
+    omega (arith, c.spend.ensures, c.cost.ensures, cost, more, is, worth)

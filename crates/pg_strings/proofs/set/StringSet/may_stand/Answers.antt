@@ -1,6 +1,6 @@
-use Rattle.std.proofs.Common.{map, refl}
+use Rattle.std.proofs.Common.{map}
 use Rattle.pg_strings.specs.Keys.{items_of}
-use Rattle.pg_strings.proofs.ShortLemmas.{none_stands}
+use Rattle.pg_strings.proofs.ShortLemmas.{any_stands}
 use Rattle.std.proofs.lemmas.Bool.{or_parts}
 use Rattle.pg_strings.proofs.set.StringSet.may_stand.Goals as goal
 
@@ -8,5 +8,5 @@ pub returns : goal.returns
 returns g c = λ none.
     let strings = map items_of c.args.self.now.strings.items in
     let clear = or_parts c.is_flagged.result c.stands_at.result none in
-    none_stands c.args.self.now.width strings c.args.bytes.now c.args.place 0 c.args.self.now.long
-    (c.stands_at.ensures strings c.requires.tables clear.1) refl (c.is_flagged.ensures clear.0)
+    any_stands c.args.self.now.width strings c.args.bytes.now c.args.place c.args.self.now.long
+    (c.stands_at.ensures strings c.requires.tables clear.1) (c.is_flagged.ensures clear.0)

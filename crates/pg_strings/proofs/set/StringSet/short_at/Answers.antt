@@ -12,5 +12,5 @@ longest_at-requires-clause-singles g c = (c.args.self.now.knows_short.1 _ c.in-S
 
 pub returns-in-None : goal.returns-in-None
 returns-in-None g c =
-    longest_none (map items_of c.args.self.now.strings.items) c.args.bytes.now c.args.place
+    longest_none (map items_of c.args.self.now.strings.items) c.args.bounds c.args.bytes.now c.args.place
     (c.args.self.now.knows_short.0 c.in-None.is)

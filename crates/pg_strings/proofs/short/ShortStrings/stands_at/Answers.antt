@@ -2,6 +2,7 @@ use Rattle.std.proofs.Common.{◌≡◌, ◌+◌, ◌*◌, ◌%◌, ◌<◌, ap,
 use Rattle.std.specs.Prelude.{slice_index, slice_index_or}
 use Rattle.std.proofs.lemmas.List.{get_or-drop}
 use Rattle.pg_strings.proofs.KeyLemmas.{window_single, window_pair}
+use Rattle.pg_pattern.specs.declared.bounds.Bounds.TheVariants.{Any}
 use Rattle.pg_strings.proofs.ShortLemmas.{longest_clear, read_of}
 use Rattle.std.proofs.lemmas.Bool.{or_parts}
 use Rattle.pg_strings.proofs.short.ShortStrings.stands_at.Goals as goal
@@ -26,12 +27,12 @@ returns g c = λ strings tables none.
     let pair_is : window % 65536 ≡ slice_index bytes place + 256 * slice_index bytes (place + 1) =
     omega (arith, read, first, second) in
     let clear = or_parts c.index.result.now c.index-2.result.now none in
-    longest_clear strings bytes place
-    (read_of c.args.self.now.pairs.items (window % 65536) _ c.index-2.result.now _
+    longest_clear strings Any bytes place
+    (λ within ends. read_of c.args.self.now.pairs.items (window % 65536) _ c.index-2.result.now _
     (omega (arith, pair_is, low, low', c.requires.pairs))
     (ap (λ n. slice_index_or c.args.self.now.pairs.items n false) pair_is
     ∙ tables.pair (slice_index bytes place) (slice_index bytes (place + 1)) low low') c.index-2.ensures clear.1)
-    (read_of c.args.self.now.singles.items (window % 256) _ c.index.result.now _
+    (λ within ends. read_of c.args.self.now.singles.items (window % 256) _ c.index.result.now _
     (omega (arith, single_is, low, c.requires.singles))
     (ap (λ n. slice_index_or c.args.self.now.singles.items n false) single_is
     ∙ tables.single (slice_index bytes place) low) c.index.ensures clear.0)

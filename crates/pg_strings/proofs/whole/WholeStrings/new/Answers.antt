@@ -2,7 +2,8 @@ use Rattle.std.proofs.Common.{◌≡◌, ◌<◌, ◌++◌, ◌∷◌, [], lengt
 use Rattle.std.proofs.lemmas.List.{length-map, take_more}
 use Rattle.pg_strings.specs.Keys.{items_of}
 use Rattle.pg_strings.specs.Whole.{AreWhole}
-use Rattle.pg_strings.proofs.PlaceLemmas.{string_at}
+use Rattle.pg_strings.proofs.PlaceLemmas.{string_at, take_whole}
+use Rattle.pg_strings.proofs.WholeLemmas.{whole_moved}
 use Rattle.pg_strings.proofs.whole.WholeStrings.new.Goals as goal
 
 pub loop-place-preserved : goal.loop-place-preserved
@@ -18,3 +19,20 @@ loop-place-preserved g c =
     subst (λ xs. AreWhole whole.lengths.items whole.chains.first.items whole.chains.next.items xs)
     (ap (λ t. take i strings ++ t ∷ []) (sym string) ∙ sym (take_more strings i [] less))
     (c.in_ok-push.ensures (take i strings) c.loop-place.invariant)
+
+pub returns : goal.returns
+returns g c =
+    let strings = map items_of c.args.strings.now in
+    let whole = c.loop-place.whole in
+    let last = c.loop-place.auto.place-end in
+    let all : take c.loop-place.place strings ≡ strings =
+    take_whole strings c.loop-place.place (omega (
+      arith,
+      last,
+      c.loop-place-test.false,
+      length-map c.args.strings.now items_of,
+    )) in
+    whole_moved whole.lengths.items c.sort_unstable.new.self.items whole.chains.first.items whole.chains.next.items
+    strings c.sort_unstable.ensures.permutation
+    (subst (λ xs. AreWhole whole.lengths.items whole.chains.first.items whole.chains.next.items xs) all
+    c.loop-place.invariant)

@@ -1,8 +1,8 @@
-use Rattle.std.proofs.Common.{◌≡◌, ◌++◌, ◌∷◌, [], length, map, true, arith, sym, subst, ◌∙◌}
+use Rattle.std.proofs.Common.{◌≡◌, ◌++◌, ◌∷◌, [], length, map, true, arith, sym, ap, subst, ◌∙◌}
 use Rattle.std.specs.Prelude.{nat_eq}
 use Rattle.std.specs.List.{list_any}
 use Rattle.pg_strings.specs.Keys.{AreChains}
-use Rattle.pg_strings.specs.Whole.{AreWhole, whole_home}
+use Rattle.pg_strings.specs.Whole.{AreWhole, home_by, whole_home}
 use Rattle.pg_strings.proofs.WholeLemmas.{whole_more, one_more, LengthsOf}
 use Rattle.pg_strings.proofs.whole.WholeStrings.push.Goals as goal
 use Rattle.pg_strings.proofs.whole.WholeStrings.push.Goals.{then-not-contains+in_ok-push, else-not-contains}
@@ -23,7 +23,8 @@ returns g c = λ strings before.
           subst (λ s. AreWhole s.lengths.items chains.first.items chains.next.items (strings ++ string ∷ []))
           (sym w.self-is)
           (whole_more lengths w.push.new.self.items old.chains.first.items old.chains.next.items chains.first.items
-          chains.next.items strings string c.chain_of.result before new c.chain_of.ensures.value linked)
+          chains.next.items strings string c.chain_of.result before new
+          (c.chain_of.ensures.value ∙ ap home_by c.number_of.ensures) linked)
       | else-not-contains w ↦
           let linked = c.in_ok-push-2.ensures (map whole_home strings) (subst
           (λ s. AreChains s.chains.first.items s.chains.next.items (map whole_home strings)) (sym w.self-is)
@@ -37,5 +38,5 @@ returns g c = λ strings before.
                 (sym c.contains.ensures.value ∙ w.if-not-contains.false),
             omega arith,
           )
-          c.chain_of.ensures.value linked)
+          (c.chain_of.ensures.value ∙ ap home_by c.number_of.ensures) linked)
     ]

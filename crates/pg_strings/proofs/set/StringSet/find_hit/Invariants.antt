@@ -1,14 +1,14 @@
 use Rattle.std.proofs.Common.{◌≤◌, ◌+◌, ◌*◌, length, ◌-◌, map}
 use Rattle.memchr.specs.Find.{Nowhere}
 use Rattle.pg_strings.specs.Keys.{items_of}
-use Rattle.pg_strings.specs.Sets.{SomeStands, work}
-use Rattle.pg_strings.proofs.set.StringSet.find.Given as goal
+use Rattle.pg_strings.specs.Sets.{SomeHit, work}
+use Rattle.pg_strings.proofs.set.StringSet.find_hit.Given as goal
 
 abbrev pub invariant-loop-place : goal.invariant-loop-place
 invariant-loop-place g l = record {
   low : l.from ≤ l.place;
   high : l.place ≤ length l.bytes;
-  none : Nowhere (SomeStands (map items_of l.self.strings.items) l.bytes) l.from l.place;
+  none : Nowhere (SomeHit (map items_of l.self.strings.items) l.bounds l.bytes) l.from l.place;
   most : l.budget.left ≤ l.fn.budget.left + 8 * (l.place - l.from);
   least : l.fn.budget.left ≤ l.budget.left + (l.place - l.from) * work (map items_of l.self.strings.items);
 }
