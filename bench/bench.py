@@ -194,11 +194,20 @@ def cases(folder, megabytes):
                 ripgrep = None if options in ("-ci", "-cw") else ["-F", options, "-f", name]
                 yield Case(["-F", options, "-f", name], text, ripgrep)
     write(folder / "beginnings", "".join(f"{it}\n" for it in texts.beginnings(words[:300])).encode())
-    write(folder / "nested", texts.nested(208))
-    write(folder / "joined", texts.joined(5))
-    for options in ("-c", "-o", "-cw", "-ow"):
-        yield Case(["-F", options, "-f", "beginnings"], "prose", ["-F", options, "-f", "beginnings"])
-    yield Case(["-F", "-cw", "-f", "nested"], "joined", ["-F", "-cw", "-f", "nested"])
+    write(folder / "folders", "".join(f"{it}\n" for it in texts.folders(words[20:60], 1_200)).encode())
+    write(folder / "opened", texts.opened(words[20:60], 10))
+    write(folder / "names", "".join(f"{it}\n" for it in texts.names(words[20:26], 1_500)).encode())
+    write(folder / "dotted", texts.dotted(words[20:26], 5))
+    write(folder / "nested", texts.nested(0, 208))
+    write(folder / "nested-later", texts.nested(1, 208))
+    write(folder / "joined", texts.joined(1))
+    lists = [("beginnings", "prose"), ("folders", "opened"), ("names", "dotted")]
+    lists += [("nested", "joined"), ("nested-later", "joined")]
+    for name, text in lists:
+        for options in ("-c", "-o", "-cw", "-ow"):
+            # ripgrep takes a minute for this one.
+            ripgrep = None if name == "folders" and "w" in options else ["-F", options, "-f", name]
+            yield Case(["-F", options, "-f", name], text, ripgrep)
     # What a list takes before the first byte is searched.
     write(folder / "tiny", b"one line\n")
     for name in ("known-400", "known-2000", "ids"):

@@ -62,15 +62,54 @@ def beginnings(words):
     return dict.fromkeys(word[:stop] for word in words for stop in range(2, len(word) + 1))
 
 
-def nested(count):
-    """So many strings, `x`, `xy-x`, `xy-xy-x` and on, each of which ends inside of a word where the next one begins
-    with it."""
-    return "".join("xy-" * at + "x\n" for at in range(count)).encode()
+def nested(least, most):
+    """Strings as `x`, `xy-x`, `xy-xy-x` and on, each of which ends inside of a word where the next one begins with it,
+    from one with so many times `xy-` up to another."""
+    return "".join("xy-" * at + "x\n" for at in range(least, most)).encode()
 
 
 def joined(megabytes):
     """Lines in which all of these strings begin at each third place, and none is a word but at the end."""
     return ("xy-" * 66 + "xy\n").encode() * (megabytes * MEGABYTE // 201)
+
+
+def folders(words, count):
+    """So many directories, with those in which they lie."""
+    chance, found = random.Random(19), {}
+    while len(found) < count:
+        path = "/usr"
+        for _ in range(chance.randint(2, 6)):
+            path += f"/{chance.choice(words)}"
+            found[path] = None
+    return list(found)[:count]
+
+
+def opened(words, megabytes):
+    """Lines of a log, each with a file in such a directory or in another one."""
+    chance, lines, size = random.Random(23), [], 0
+    while size < megabytes * MEGABYTE:
+        path = "/".join(chance.choice(words) for _ in range(chance.randint(2, 8)))
+        lines.append(f"{chance.randint(0, 999_999):06} open /usr/{path}.h ok")
+        size += len(lines[-1]) + 1
+    return ("\n".join(lines) + "\n").encode()
+
+
+def names(words, count):
+    """So many names of up to seven parts, of which many begin with others."""
+    chance, found = random.Random(29), {}
+    while len(found) < count:
+        found[".".join(chance.choice(words) for _ in range(chance.randint(1, 7)))] = None
+    return list(found)
+
+
+def dotted(words, megabytes):
+    """Lines of three such names each, of up to nine parts."""
+    chance, lines, size = random.Random(31), [], 0
+    while size < megabytes * MEGABYTE:
+        row = (".".join(chance.choice(words) for _ in range(chance.randint(1, 9))) for _ in range(3))
+        lines.append(" ".join(row))
+        size += len(lines[-1]) + 1
+    return ("\n".join(lines) + "\n").encode()
 
 
 def number(at):

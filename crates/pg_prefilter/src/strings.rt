@@ -83,6 +83,8 @@ impl<'s, A: Allocator> Drop for BlockJudge<'s, A> {
 
 /// The first string from a place of a line on, and of those that start there the longest, where a match may begin and
 /// end.
+// There is one for each kind of bounds, so that the other asks nothing of the bytes around a string.
+#[inline(always)]
 fn next_standing<A: Allocator>(
     set: &StringSet<A>,
     bounds: Bounds,
@@ -136,7 +138,8 @@ fn next_string<A: Allocator>(
 {
     match bounds {
         Bounds::Whole => whole_line(set, line, from),
-        Bounds::Any | Bounds::Word => next_standing(set, bounds, line, from),
+        Bounds::Any => next_standing(set, Bounds::Any, line, from),
+        Bounds::Word => next_standing(set, Bounds::Word, line, from),
     }
 }
 

@@ -118,12 +118,13 @@ pub string_at : {A : Type 0} (strings : List (Vec ℕ A)) (i : ℕ) (string : Ve
 string_at strings i string less is = get_or-map items_of strings i string [] less ∙ ap (λ t. t.items) (sym is)
 
 -- a flag stays set
-set_keeps : (flags : List Bool) (k n : ℕ) → k < length flags → slice_index_or flags n true ≡ true
+pub set_keeps : (flags : List Bool) (k n : ℕ) → k < length flags → slice_index_or flags n true ≡ true
     → slice_index_or (set flags k true) n true ≡ true
 set_keeps flags k n less is = grind (arith, common_steps, is)
 
 -- and one that was set is
-set_stands : (flags : List Bool) (k n : ℕ) → k < length flags → n ≡ k → slice_index_or (set flags k true) n true ≡ true
+pub set_stands : (flags : List Bool) (k n : ℕ) → k < length flags → n ≡ k
+    → slice_index_or (set flags k true) n true ≡ true
 set_stands flags k n less is = grind (arith, common_steps, is)
 
 -- one more string is flagged

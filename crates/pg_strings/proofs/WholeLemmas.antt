@@ -1,26 +1,28 @@
 -- Strings that are known by all their bytes: for `Prefix`, `WholeStrings` and the searches in find_whole.rt.
-use Rattle.std.proofs.Common.{◌≡◌, ℕ, ◌+◌, ◌-◌, ◌*◌, ◌%◌, ◌<◌, ◌≤◌, ◌↔◌, ◌++◌, ◌∷◌, ◌||◌, IsTrue, Bool, true, false}
+use Rattle.std.proofs.Common.{◌≡◌, ℕ, ◌+◌, ◌-◌, ◌*◌, ◌%◌, ◌<◌, ◌≤◌, ◌↔◌, ◌++◌, ◌∷◌, ◌||◌}
+use Rattle.std.proofs.Common.{IsTrue, Bool, true, false, not, take-take}
 use Rattle.std.proofs.Common.{List, [], length, map, drop, take, get_or, refl, sym, ap, ◌∙◌, arith}
-use Rattle.std.proofs.Common.{subst, inl, inr}
-use Rattle.std.specs.Prelude.{nat_eq, Contains}
+use Rattle.std.proofs.Common.{subst, max, ◌⊎◌, inl, inr}
+use Rattle.std.specs.Prelude.{nat_eq, Contains, slice_index_or, MatchOption, Option, None, Some}
 use Rattle.std.specs.List.{All, list_any, sum_by}
-use Rattle.std.proofs.lemmas.Bool.{eqb-true, eq-eqb, cases_lt}
+use Rattle.std.proofs.lemmas.Bool.{eqb-true, eq-eqb, cases_lt, false≢true}
 use Rattle.std.proofs.lemmas.List.{get_or_default, map-append}
 use Rattle.std.proofs.lemmas.List.Elements.{All-push, All-weaker}
 use Rattle.std.proofs.lemmas.List.{drop-drop}
 use Rattle.std.proofs.Math.Seq.{take-add}
-use Rattle.std.specs.List.Sorted.{IsPermutation}
+use Rattle.std.specs.List.Sorted.{IsPermutation, IsNonDecreasing}
 use Rattle.std.proofs.lemmas.List.Sorted.{Contains-permutation, sum_by-IsPermutation}
 use Rattle.std.proofs.lemmas.List.Folds.{Any-from_list_any, list_any-from_Any, list_any-append}
 use Rattle.std.proofs.lemmas.List.Sums.{sum_by-append}
 use Rattle.std.proofs.Math.Bool.{or-true}
 use Rattle.memchr.specs.Find.{OccursAt}
 use Rattle.memchr.proofs.lemmas.MatchLemmas.{OccursAt-part, OccursAt-from_part}
-use Rattle.pg_strings.specs.Keys.{AreChains}
+use Rattle.pg_strings.specs.Keys.{AreChains, AreLong}
 use Rattle.pg_pattern.specs.Bounds.{MayEnd}
 use Rattle.pg_pattern.specs.declared.bounds.Bounds.{Bounds}
+use Rattle.pg_strings.specs.Outcomes.{IsLongestAt}
 use Rattle.pg_strings.specs.Sets.{StandsAs, SomeStandsAs, StandsSo}
-use Rattle.pg_strings.specs.Whole.{AreWhole, number_behind, whole_home}
+use Rattle.pg_strings.specs.Whole.{AreWhole, IsFlaggedAt, KeepsFlags, NoneLonger, flag_by, number_behind, whole_home}
 use Rattle.pg_strings.proofs.WalkLemmas.{IsWalked}
 
 -- the number of bytes behind others
@@ -181,6 +183,63 @@ none_at_all lengths first next strings bounds bytes place whole none some =
     let at = length_at lengths first next strings whole some.0 some.1 some.2 in
     none at.0 at.1 (some.0, some.1, some.2, some.3, (some.4, sym (at.2 ∙ ap length some.3)))
 
+-- one more length
+pub none_more : (strings : List (List ℕ)) (bounds : Bounds) (bytes : List ℕ) (place : ℕ) (lengths : List ℕ)
+    (at len : ℕ) → get_or lengths at 0 ≡ len → (StandsSo strings bounds bytes place len → ⊥)
+    → NoneOf strings bounds bytes place lengths at → NoneOf strings bounds bytes place lengths (at + 1)
+none_more strings bounds bytes place lengths at len is none before i low there = elim (cases_lt i at) [
+  | inl earlier ↦ before i earlier there
+  | inr last ↦
+      let e : i ≡ at = omega (arith, low, last) in
+      none (subst (StandsSo strings bounds bytes place) (ap (λ n. get_or lengths n 0) e ∙ is) there)
+]
+
+-- a flag that isn't set
+pub unset : (flag : Bool) → IsTrue (not flag) → flag ≡ false
+unset false h = refl
+unset true h = absurd (false≢true h)
+
+-- where bytes have no flag no string that stands there is longer
+pub none_flagged : (strings : List (List ℕ)) (lengths : List ℕ) (flags : List Bool) (bytes : List ℕ)
+    (place at number : ℕ) → All (IsFlaggedAt lengths flags) strings → at < length lengths
+    → number ≡ number_behind 0 (take (get_or lengths at 0) (drop place bytes))
+    → slice_index_or flags (flag_by number) true ≡ false → NoneLonger strings bytes place (get_or lengths at 0)
+none_flagged strings lengths flags bytes place at number flagged within is clear k d less occurs =
+    let string = get_or strings k d in
+    let len = get_or lengths at 0 in
+    elim (cases_lt len (length string)) [
+      | inl longer ↦
+          let same : take len string ≡ take len (drop place bytes) =
+          ap (take len) (sym (OccursAt-part bytes string place occurs))
+          ∙ take-take len (length string) (drop place bytes) (omega (arith, longer)) in
+          let set = flagged k d less at 0 within longer in
+          let told : slice_index_or flags (flag_by number) true ≡ true =
+          ap (λ n. slice_index_or flags (flag_by n) true) (is ∙ ap (number_behind 0) (sym same)) ∙ set in
+          absurd (false≢true (sym clear ∙ told))
+      | inr short ↦ omega (arith, short)
+    ]
+
+module _ (strings : List (List ℕ)) (bounds : Bounds) (bytes : List ℕ) (place : ℕ) (lengths : List ℕ) (at : ℕ)
+    (rises : IsNonDecreasing lengths) (none : NoneLonger strings bytes place (get_or lengths at 0)) where
+  -- no later length is greater
+  no_greater : (i : ℕ) → at ≤ i → i < length lengths → StandsSo strings bounds bytes place (get_or lengths i 0)
+      → get_or lengths i 0 ≡ get_or lengths at 0
+  no_greater i low less (k, string, below, is, there) =
+      let high = subst (λ t. OccursAt bytes t place → length t ≤ get_or lengths at 0) is (none k string below)
+      there.0.0 in
+      let up = rises at i 0 low less in
+      omega (arith, high, up, there.1)
+
+  -- so none stands, where none of those up to this one does
+  pub none_later : NoneOf strings bounds bytes place lengths (at + 1)
+      → NoneOf strings bounds bytes place lengths (length lengths)
+  none_later before i less there = elim (cases_lt i (at + 1)) [
+    | inl earlier ↦ before i earlier there
+    | inr later ↦
+        let same = no_greater i (omega (arith, later)) less there in
+        before at (omega arith) (subst (StandsSo strings bounds bytes place) same there)
+  ]
+
 -- what was found of the lengths before one
 pub record IsLongestOf (strings : List (List ℕ)) (bounds : Bounds) (bytes : List ℕ) (place : ℕ) (lengths : List ℕ)
     (count longest : ℕ) : Type 0 where
@@ -188,27 +247,54 @@ pub record IsLongestOf (strings : List (List ℕ)) (bounds : Bounds) (bytes : Li
   pub most : (i : ℕ) → i < count → StandsSo strings bounds bytes place (get_or lengths i 0)
       → get_or lengths i 0 ≤ longest
 
--- one more length
+-- one more length, of which a string stands and it is taken if it is greater, or none does
 pub longest_more : (strings : List (List ℕ)) (bounds : Bounds) (bytes : List ℕ) (place : ℕ) (lengths : List ℕ)
-    (count longest longer : ℕ) → IsLongestOf strings bounds bytes place lengths count longest → longest ≤ longer
-    → (StandsSo strings bounds bytes place (get_or lengths count 0) → get_or lengths count 0 ≤ longer)
-    → (longest < longer → StandsSo strings bounds bytes place longer)
-    → IsLongestOf strings bounds bytes place lengths (count + 1) longer
-longest_more strings bounds bytes place lengths count longest longer before low own stands = record {
-  stands = λ some. elim (cases_lt longest longer) [
-    | inl more ↦ stands more
+    (at len before after : ℕ) → get_or lengths at 0 ≡ len
+    → StandsSo strings bounds bytes place len × (after ≡ max len before)
+    ⊎ (StandsSo strings bounds bytes place len → ⊥) × (after ≡ before)
+    → IsLongestOf strings bounds bytes place lengths at before
+    → IsLongestOf strings bounds bytes place lengths (at + 1) after
+longest_more strings bounds bytes place lengths at len before after is (inl (stands, most)) was = record {
+  stands = λ some. elim (cases_lt before after) [
+    | inl more ↦ subst (StandsSo strings bounds bytes place) (omega (arith, most, more)) stands
     | inr same ↦
-        let e : longest ≡ longer = omega (arith, low, same) in
-        subst (StandsSo strings bounds bytes place) e (before.stands (omega (arith, e, some)))
+        let e : before ≡ after = omega (arith, most, same) in
+        subst (StandsSo strings bounds bytes place) e (was.stands (omega (arith, e, some)))
   ];
-  most = λ i less there. elim (cases_lt i count) [
+  most = λ i less there. elim (cases_lt i at) [
     | inl earlier ↦
-        let most = before.most i earlier there in
-        omega (arith, most, low)
+        let high = was.most i earlier there in
+        omega (arith, most, high)
     | inr last ↦
-        let e : i ≡ count = omega (arith, less, last) in
-        subst (λ n. StandsSo strings bounds bytes place (get_or lengths n 0) → get_or lengths n 0 ≤ longer) (sym e) own
-        there
+        let e : i ≡ at = omega (arith, less, last) in
+        omega (arith, ap (λ n. get_or lengths n 0) e, is, most)
+  ];
+}
+longest_more strings bounds bytes place lengths at len before after is (inr (none, same)) was = record {
+  stands = λ some. subst (StandsSo strings bounds bytes place) (sym same) (was.stands (omega (arith, same, some)));
+  most = λ i less there. elim (cases_lt i at) [
+    | inl earlier ↦
+        let high = was.most i earlier there in
+        omega (arith, same, high)
+    | inr last ↦
+        let e : i ≡ at = omega (arith, less, last) in
+        absurd (none (subst (StandsSo strings bounds bytes place) (ap (λ n. get_or lengths n 0) e ∙ is) there))
+  ];
+}
+
+-- and what was found of the lengths up to one, no string being longer, is found of all
+pub longest_later : (strings : List (List ℕ)) (bounds : Bounds) (bytes : List ℕ) (place : ℕ) (lengths : List ℕ)
+    (at longest : ℕ) → IsNonDecreasing lengths → NoneLonger strings bytes place (get_or lengths at 0)
+    → IsLongestOf strings bounds bytes place lengths (at + 1) longest
+    → IsLongestOf strings bounds bytes place lengths (length lengths) longest
+longest_later strings bounds bytes place lengths at longest rises none before = record {
+  stands = before.stands;
+  most = λ i less there. elim (cases_lt i (at + 1)) [
+    | inl earlier ↦ before.most i earlier there
+    | inr later ↦
+        let same = no_greater strings bounds bytes place lengths at rises none i (omega (arith, later)) less there in
+        let most = before.most at (omega arith) (subst (StandsSo strings bounds bytes place) same there) in
+        omega (arith, same, most)
   ];
 }
 
@@ -227,3 +313,33 @@ none_longer lengths first next strings bounds bytes place longest whole found k 
       (stands, sym at.2),
     ) in
     omega (arith, high, at.2)
+
+-- each string has a byte
+pub some_bytes : (width : ℕ) (strings : List (List ℕ)) → AreLong width strings
+    → All (λ string. 1 ≤ length string) strings
+some_bytes width strings are_long k d less = (are_long k d less).0
+
+-- so that is the longest string that stands, if any does
+pub longest_of_all : (lengths first next : List ℕ) (strings : List (List ℕ)) (bounds : Bounds) (bytes : List ℕ)
+    (place longest : ℕ) → AreWhole lengths first next strings → All (λ string. 1 ≤ length string) strings
+    → IsLongestOf strings bounds bytes place lengths (length lengths) longest → (result : Option ℕ)
+    → MatchOption result (longest ≡ 0) (λ n. (0 < n) × (n ≡ longest)) → IsLongestAt strings bounds bytes place result
+longest_of_all lengths first next strings bounds bytes place longest whole some found None none =
+    λ (i, string, less, at, stands).
+    let high = none_longer lengths first next strings bounds bytes place longest whole found in
+    let most = subst (λ t. StandsAs bounds bytes place t → length t ≤ longest) at (high i string less) stands in
+    let long = subst (λ (t : List ℕ). 1 ≤ length t) at (some i string less) in
+    absurd (omega (arith, most, long, none))
+longest_of_all lengths first next strings bounds bytes place longest whole some found (Some n) (more, is) =
+    let high = none_longer lengths first next strings bounds bytes place longest whole found in (
+      subst (StandsSo strings bounds bytes place) (sym is) (found.stands (omega (arith, more, is))),
+      λ k d less stands.
+          let most = high k d less stands in
+          omega (arith, most, is),
+    )
+
+-- a string whose beginnings are flagged, where flags are kept
+pub flagged_kept : (lengths : List ℕ) (before after : List Bool) → KeepsFlags before after → (string : List ℕ)
+    → IsFlaggedAt lengths before string → IsFlaggedAt lengths after string
+flagged_kept lengths before after keeps string flagged k d less longer =
+    keeps (flag_by (number_behind 0 (take (get_or lengths k d) string))) (flagged k d less longer)

@@ -1,8 +1,10 @@
 -- Strings that are known by all their bytes.
-use Rattle.std.specs.Prelude.{◌≡◌, ℕ, ◌+◌, ◌*◌, ◌/◌, ◌%◌, ◌≤◌, List, [], ◌∷◌, Option, length, map, nat_eq, true}
-use Rattle.std.specs.Prelude.{take, drop}
+use Rattle.std.specs.Prelude.{◌≡◌, ℕ, ◌+◌, ◌*◌, ◌/◌, ◌%◌, ◌<◌, ◌≤◌, Bool, true, List, [], ◌∷◌, Option}
+use Rattle.std.specs.Prelude.{length, map, nat_eq, take, drop, slice_index_or}
 use Rattle.std.specs.Option.{ForSome}
 use Rattle.std.specs.List.{All, list_any, sum_by}
+use Rattle.std.specs.List.Sorted.{IsNonDecreasing}
+use Rattle.memchr.specs.Find.{OccursAt}
 use Rattle.pg_strings.specs.Keys.{AreChains}
 use Rattle.pg_strings.specs.Sets.{work}
 use Rattle.pg_strings.specs.declared.whole.Prefix.{Prefix}
@@ -22,6 +24,23 @@ home_by number = number * 11400714819323198485 % 18446744073709551616 / 22517998
 abbrev pub whole_home : List ℕ → ℕ
 whole_home string = home_by (number_behind 0 string)
 
+-- the flag of the beginnings of strings that have a number
+abbrev pub flag_by : ℕ → ℕ
+flag_by number = number * 11400714819323198485 % 18446744073709551616 / 140737488355328
+
+-- each beginning of the string that has one of the lengths, and isn't all of it, is flagged
+abbrev pub IsFlaggedAt : (lengths : List ℕ) (flags : List Bool) → List ℕ → Type 0
+IsFlaggedAt lengths flags string = All (λ len. len < length string
+    → slice_index_or flags (flag_by (number_behind 0 (take len string))) true ≡ true) lengths
+
+-- a flag that was set is set
+abbrev pub KeepsFlags : (before after : List Bool) → Type 0
+KeepsFlags before after = (k : ℕ) → slice_index_or before k true ≡ true → slice_index_or after k true ≡ true
+
+-- no string that stands at the place is longer
+abbrev pub NoneLonger : List (List ℕ) → List ℕ → ℕ → ℕ → Type 0
+NoneLonger strings bytes place len = All (λ string. OccursAt bytes string place → length string ≤ len) strings
+
 -- it has the number of so many bytes from a place on
 pub record IsPrefix (bytes : List ℕ) (place : ℕ) (prefix : Prefix) : Type 0 where
   pub within : place + prefix.len ≤ length bytes
@@ -34,9 +53,16 @@ pub record AreWhole (lengths first next : List ℕ) (strings : List (List ℕ)) 
   pub worth : sum_by (λ len. 1 + len) lengths ≤ work strings
   pub linked : AreChains first next (map whole_home strings)
 
+-- the lengths and chains are those of these strings
+abbrev pub HasChainsOf : {A : Type 0} → WholeStrings A → List (List ℕ) → Type 0
+HasChainsOf whole strings = AreWhole whole.lengths.items whole.chains.first.items whole.chains.next.items strings
+
 -- the tables are those of these strings
-abbrev pub IsWholeOf : {A : Type 0} → WholeStrings A → List (List ℕ) → Type 0
-IsWholeOf whole strings = AreWhole whole.lengths.items whole.chains.first.items whole.chains.next.items strings
+pub record IsWholeOf {A : Type 0} (whole : WholeStrings A) (strings : List (List ℕ)) : Type 0 where
+  pub chains : HasChainsOf whole strings
+  pub rises : IsNonDecreasing whole.lengths.items
+  pub all_flags : length whole.flags.items ≡ 131072
+  pub flagged : All (IsFlaggedAt whole.lengths.items whole.flags.items) strings
 
 -- the tables, if there are any, are those of these strings
 abbrev pub KnowsWhole : {A : Type 0} → Option (WholeStrings A) → List (List ℕ) → Type 0

@@ -1,6 +1,7 @@
 //! The search for the first place at which a string stands.
 ghost use Rattle.std.specs.Prelude.{◌≡◌, ◌+◌, ◌≤◌, length, false};
 ghost use Rattle.memchr.specs.Find.{Nowhere};
+ghost use Rattle.pg_pattern.specs.Bounds.{MayBegin};
 ghost use Rattle.pg_strings.specs.Sets.{SomeHit, SomeStands, work};
 ghost use Rattle.pg_strings.specs.Outcomes.{strings_of, IsOutcome, IsWithinBudget, IsLook};
 ghost use Rattle.pg_strings.specs.Short.{AreTables, SomeLongStands};
@@ -14,10 +15,26 @@ use crate::short::ShortStrings;
 use pg_pattern::Bounds;
 use std::alloc::Allocator;
 
+/// The first place at or behind one at which a match may begin, or where the bytes end.
+#[inline(always)]
+fn next_begin(bounds: Bounds, bytes: &[u8], from: usize) -> usize
+    requires { from ≤ length bytes.now }
+    ensures low { from ≤ result }
+    ensures high { result ≤ length bytes.now }
+    ensures none { Nowhere (MayBegin bounds bytes.now) from result }
+{
+    let mut place = from;
+    while place < bytes.len() && !bounds.may_begin(bytes, place) {
+        place += 1;
+    }
+    place
+}
+
 impl<A: Allocator> StringSet<A> {
     /// The first place at or behind `from` at which some string stands, as far as the budget goes.
     ///
     /// Looking at one place compares each string at most once. Where the budget is used up, the search gives up.
+    #[inline(never)]
     pub fn find(&self, bytes: &[u8], from: usize, budget: &mut Budget) -> Outcome
         requires { from ≤ length bytes.now }
         ensures outcome { IsOutcome (SomeStands (strings_of self.now) bytes.now) from (length bytes.now) result }
@@ -29,6 +46,8 @@ impl<A: Allocator> StringSet<A> {
 
     /// The first place of a line, at or behind `from`, at which some string stands that begins and ends where a match
     /// may, as far as the budget goes. Otherwise as [`StringSet::find`].
+    // Each caller has a search of its own, so that one for any match asks nothing of the bytes around a string.
+    #[inline(always)]
     pub fn find_hit(
         &self,
         bounds: Bounds,
@@ -50,15 +69,17 @@ impl<A: Allocator> StringSet<A> {
             }
             match self.look_at(bounds, bytes, next, budget) {
                 Look::Stands => return Outcome::Found(next),
-                Look::NoneStands => budget.earn(1),
+                Look::NoneStands => {}
                 Look::GaveUp => return Outcome::GaveUp(next),
             }
-            place = next + 1;
+            place = next_begin(bounds, bytes, next + 1);
+            budget.earn(place - next);
         }
         Outcome::NotFound
     }
 
     /// Whether some string stands at a place that begins and ends where a match may.
+    #[inline(always)]
     fn look_at(&self, bounds: Bounds, bytes: &[u8], place: usize, budget: &mut Budget) -> Look
         requires { place ≤ length bytes.now }
         ensures look { IsLook (SomeHit (strings_of self.now) bounds bytes.now place) budget.new.left result }

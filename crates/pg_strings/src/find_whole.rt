@@ -1,17 +1,25 @@
 //! The search for strings by all their bytes, where many begin alike.
-ghost use Rattle.std.specs.Prelude.{◌≡◌, ◌+◌, ◌<◌, ◌≤◌, ◌↔◌, length, IfSome, IsTrue, Contains};
+ghost use Rattle.std.specs.Prelude.{◌≡◌, ◌+◌, ◌<◌, ◌≤◌, ◌↔◌, ℕ, List, length, slice_index};
+ghost use Rattle.std.specs.Prelude.{IfSome, IsTrue, MatchOption, Contains};
 ghost use Rattle.pg_pattern.specs.Bounds.{MayBegin};
 ghost use Rattle.pg_strings.specs.Sets.{SomeHit, StandsSo, work};
 ghost use Rattle.pg_strings.specs.Outcomes.{strings_of, IsLongestAt, IsLook};
-ghost use Rattle.pg_strings.specs.Whole.{IsPrefix, IsWholeOf, number_behind};
+ghost use Rattle.pg_strings.specs.Whole.{IsPrefix, IsWholeOf, NoneLonger, number_behind};
 
 use crate::budget::Budget;
 use crate::compare::{fits, is_text};
 use crate::outcome::Look;
 use crate::set::StringSet;
-use crate::whole::{Prefix, WholeStrings, chain_of};
+use crate::whole::{Prefix, WholeStrings, chain_of, flag_of};
 use pg_pattern::Bounds;
 use std::alloc::Allocator;
+
+/// A length, unless it is 0.
+fn unless_zero(len: usize) -> Option<usize>
+    ensures { MatchOption result (len ≡ 0) (λ n. (0 < n) × (n ≡ len)) }
+{
+    if len > 0 { Some(len) } else { None }
+}
 
 impl<A: Allocator> StringSet<A> {
     /// The tables by all bytes, if a chain by first bytes has many strings.
@@ -64,6 +72,18 @@ impl<A: Allocator> StringSet<A> {
         self.has_whole(whole, prefix.number, &bytes[place..place + len])
     }
 
+    /// Whether none of the strings that stand at a place is longer than the length at this place of the lengths, as is
+    /// known where so many bytes were looked for.
+    #[inline(always)]
+    fn is_last(&self, whole: &WholeStrings<A>, at: usize, prefix: &Prefix) -> bool
+        requires whole { IsWholeOf whole.now (strings_of self.now) }
+        requires at { at < length whole.now.lengths.items }
+        ensures { IsTrue result → (bytes : List ℕ) (place : ℕ) → IsPrefix bytes place prefix.now
+            → NoneLonger (strings_of self.now) bytes place (slice_index whole.now.lengths.items at) }
+    {
+        whole.lengths[at] == prefix.len && !whole.flags[flag_of(prefix.number)]
+    }
+
     /// Whether some string stands at a place, where a match may begin, and ends where one may.
     pub(crate) fn look_whole(
         &self,
@@ -90,6 +110,9 @@ impl<A: Allocator> StringSet<A> {
             if self.stands_whole(whole, len, bounds, bytes, place, &mut prefix) {
                 return Look::Stands;
             }
+            if self.is_last(whole, at, &prefix) {
+                return Look::NoneStands;
+            }
         }
         Look::NoneStands
     }
@@ -113,7 +136,10 @@ impl<A: Allocator> StringSet<A> {
             if self.stands_whole(whole, len, bounds, bytes, place, &mut prefix) {
                 longest = len.max(longest);
             }
+            if self.is_last(whole, at, &prefix) {
+                return unless_zero(longest);
+            }
         }
-        if longest > 0 { Some(longest) } else { None }
+        unless_zero(longest)
     }
 }

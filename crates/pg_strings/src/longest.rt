@@ -43,6 +43,7 @@ impl<A: Allocator> StringSet<A> {
 
     /// The length of the longest string that stands at a place and ends where a match may, if any does. Each string is
     /// compared at most once.
+    #[inline(always)]
     pub fn longest_at(&self, bounds: Bounds, bytes: &[u8], place: usize) -> Option<usize>
         requires { place ≤ length bytes.now }
         ensures { IsLongestAt (strings_of self.now) bounds bytes.now place result }

@@ -1,7 +1,9 @@
 //! Strings that are known by all their bytes, for lists of which many begin alike.
 ghost use Rattle.std.specs.Prelude.{◌≡◌, ◌+◌, ◌<◌, ◌≤◌, ◌++◌, ◌∷◌, [], List, ℕ, length, map, IfOk, IfSome, OnOk};
 ghost use Rattle.pg_strings.specs.Keys.{items_of};
-ghost use Rattle.pg_strings.specs.Whole.{IsPrefix, IsWholeOf, home_by, number_behind};
+ghost use Rattle.std.specs.List.{All};
+ghost use Rattle.pg_strings.specs.Whole.{HasChainsOf, IsFlaggedAt, IsPrefix, IsWholeOf, KeepsFlags};
+ghost use Rattle.pg_strings.specs.Whole.{flag_by, home_by, number_behind};
 
 use crate::chains::Chains;
 use crate::compare::{STRIDE, fits};
@@ -12,8 +14,8 @@ use std::alloc::{AllocError, Allocator, Global};
 /// A chain of more strings than these is long.
 const LONG_CHAIN: u32 = 32;
 
-/// To look for one length by all its bytes takes as long as to compare so many strings.
-const PER_LENGTH: u32 = 4;
+/// How many flags there are for beginnings of strings.
+const FLAGS: usize = 131_072;
 
 /// A number of the bytes of a text, behind others that have this one.
 fn number_behind(before: u64, text: &[u8]) -> u64
@@ -41,10 +43,18 @@ pub(crate) fn chain_of(number: u64) -> usize
     (number.wrapping_mul(MIX) / 0x0008_0000_0000_0000) as usize
 }
 
+/// The flag of the beginnings of strings that have a number.
+pub(crate) fn flag_of(number: u64) -> usize
+    ensures few { result < 131072 }
+    ensures value { result ≡ flag_by number }
+{
+    (number.wrapping_mul(MIX) / 0x8000_0000_0000) as usize
+}
+
 /// The number of so many bytes from a place on. That of more bytes follows from it.
 #[derive(Clone, Copy)]
 pub(crate) struct Prefix {
-    len: usize,
+    pub len: usize,
     pub number: u64,
 }
 
@@ -96,6 +106,9 @@ pub(crate) struct WholeStrings<A: Allocator = Global> {
     pub chains: Chains<A>,
     /// For each chain by first bytes how many strings it has.
     pub counts: Vec<u32, A>,
+    /// For each number of a string's beginning that has one of the lengths, and isn't all of it, a flag that is set.
+    /// Where bytes have none no string is longer.
+    pub flags: Vec<bool, A>,
 }
 
 /// Whether some chain has so many strings that they are to be known by all their bytes.
@@ -103,12 +116,45 @@ pub(crate) fn has_long_chain(counts: &[u32]) -> bool {
     counts.iter().any(|count| *count > LONG_CHAIN)
 }
 
+/// Sets the flags of a string's beginnings that have one of these lengths.
+fn flag_beginnings<A: Allocator>(flags: &mut Vec<bool, A>, lengths: &[usize], string: &[u8])
+    requires { length flags.old.items ≡ 131072 }
+    ensures all { length flags.new.items ≡ 131072 }
+    ensures own { IsFlaggedAt lengths.now flags.new.items string.now }
+    ensures kept { KeepsFlags flags.old.items flags.new.items }
+{
+    let mut prefix = Prefix::empty();
+    for at in 0..lengths.len() {
+        let len = lengths[at];
+        if len < string.len() {
+            prefix.reach(len, string, 0);
+            flags[flag_of(prefix.number)] = true;
+        }
+    }
+}
+
+/// The flags of all strings' beginnings that have one of these lengths.
+fn flags_of<A: Allocator + Copy>(
+    alloc: A,
+    lengths: &[usize],
+    strings: &[Vec<u8, A>],
+) -> Result<Vec<bool, A>, AllocError>
+    ensures all { IfOk result (λ flags. length flags.items ≡ 131072) }
+    ensures flagged { IfOk result (λ flags. All (IsFlaggedAt lengths.now flags.items) (map items_of strings.now)) }
+{
+    let mut flags = vec![in alloc; false; FLAGS]?;
+    for place in 0..strings.len() {
+        flag_beginnings(&mut flags, lengths, &strings[place]);
+    }
+    Ok(flags)
+}
+
 impl<A: Allocator> WholeStrings<A> {
     /// Adds the next string.
     fn push(&mut self, string: &[u8]) -> Result<(), AllocError>
         requires { length self.old.chains.first.items ≡ 8192 }
         ensures { OnOk result ((strings : List (List ℕ))
-            → IsWholeOf self.old strings → IsWholeOf self.new (strings ++ string.now ∷ [])) }
+            → HasChainsOf self.old strings → HasChainsOf self.new (strings ++ string.now ∷ [])) }
     {
         let len = string.len();
         if !self.lengths.contains(&len) {
@@ -119,7 +165,7 @@ impl<A: Allocator> WholeStrings<A> {
     }
 
     /// The tables of some strings, of which the chains by first bytes have so many each. Beside the strings' bytes it
-    /// takes the time of comparing each string's length with all other lengths.
+    /// takes the time of comparing each string's length with all lengths.
     pub fn new(
         alloc: A,
         strings: &[Vec<u8, A>],
@@ -133,21 +179,21 @@ impl<A: Allocator> WholeStrings<A> {
             lengths: Vec::new(alloc),
             chains: Chains::new(alloc)?,
             counts,
+            flags: Vec::new(alloc),
         };
         for place in 0..strings.len() {
             whole.push(&strings[place])?;
         }
         whole.lengths.sort_unstable();
+        whole.flags = flags_of(alloc, whole.lengths.as_slice(), strings)?;
         Ok(whole)
     }
 
-    /// Whether a chain by first bytes is long, and comparing its strings takes longer than to look for each length by
-    /// all its bytes.
+    /// Whether a chain by first bytes is long, and has more strings than there are lengths: to look for a length takes
+    /// about as long as to compare a string.
     pub fn is_long(&self, chain: usize) -> bool {
         match self.counts.get(chain) {
-            Some(count) => {
-                *count > LONG_CHAIN && (*count / PER_LENGTH) as usize > self.lengths.len()
-            }
+            Some(count) => *count > LONG_CHAIN && *count as usize > self.lengths.len(),
             None => false,
         }
     }

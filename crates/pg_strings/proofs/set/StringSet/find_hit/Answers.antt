@@ -108,14 +108,16 @@ loop-place-preserved g c =
     let seen = looked c.args.budget.now.left c.earn.new.self.left c.look_at.new.budget.left (next - from)
     (next + 1 - from)
     all (omega (arith, low, c.skip-next.ensures.low)) c.look_at.ensures.cost reached in
+    let place = c.next_begin-place.result in
     record {
-      low = omega (arith, low, c.skip-next.ensures.low);
-      high = omega (arith, c.if-next-bytes.false);
-      none = nowhere_joined P from next (next + 1)
+      low = omega (arith, low, c.skip-next.ensures.low, c.next_begin-place.ensures.low);
+      high = c.next_begin-place.ensures.high;
+      none = nowhere_joined P from (next + 1) place (nowhere_joined P from next (next + 1)
           (nowhere_joined P from c.loop-place.place next c.loop-place.invariant.none
           (no_hits (map items_of c.args.self.now.strings.items) c.args.bounds c.args.bytes.now c.loop-place.place
           c.skip-next.result c.skip-next.ensures.none))
-          (nowhere_at P next c.in-NoneStands.ensures.look);
+          (nowhere_at P next c.in-NoneStands.ensures.look))
+          (λ k least less hit. c.next_begin-place.ensures.none k least less hit.0);
       most = omega (
         arith,
         low,
@@ -123,10 +125,12 @@ loop-place-preserved g c =
         c.skip-next.ensures.low,
         c.earn.ensures.most,
         c.look_at.ensures.less,
-        c.earn-in-NoneStands.ensures.most,
+        c.earn-in-loop-place.ensures.most,
+        c.next_begin-place.ensures.low,
       );
-      least = further c.args.budget.now.left c.look_at.new.budget.left c.earn-in-NoneStands.new.self.left
-          (next + 1 - from) (next + 1 - from) all (omega arith) c.earn-in-NoneStands.ensures.more seen;
+      least = further c.args.budget.now.left c.look_at.new.budget.left c.earn-in-loop-place.new.self.left
+          (next + 1 - from) (place - from) all (omega (arith, c.next_begin-place.ensures.low))
+          c.earn-in-loop-place.ensures.more seen;
     }
 
 pub returns-clause-outcome : goal.returns-clause-outcome

@@ -14,7 +14,8 @@ loop-link-init g c =
     let P : List ℕ → Type 0 = λ string. string ≡ c.args.text.now → ⊥ in
     let whole = c.args.whole.now in
     let walk = walk_first P whole_home (map items_of vecs) whole.chains.first.items whole.chains.next.items
-    c.chain_of.result c.index-link.result.now c.chain_of.ensures.few c.requires.whole.linked c.index-link.ensures in
+    c.chain_of.result c.index-link.result.now c.chain_of.ensures.few c.requires.whole.chains.linked
+    c.index-link.ensures in
     record {
       within = omega (arith, walk.0, length-map vecs items_of);
       walked = subst (λ h. IsWalked P whole_home (map items_of vecs) c.index-link.result.now h)
@@ -27,7 +28,7 @@ loop-link-smaller g c =
     let whole = c.args.whole.now in
     let within = c.loop-link.invariant.within in
     link_falls whole_home (map items_of vecs) whole.chains.first.items whole.chains.next.items c.loop-link.link
-    c.index-link-in-loop-link.result.now c.requires.whole.linked c.loop-link-test.true
+    c.index-link-in-loop-link.result.now c.requires.whole.chains.linked c.loop-link-test.true
     (omega (arith, within, length-map vecs items_of)) c.index-link-in-loop-link.ensures
 
 pub loop-link-preserved : goal.loop-link-preserved
@@ -48,7 +49,8 @@ loop-link-preserved g c =
     ∙ c.if-is_text.false in
     cc in
     let walk = walk_next P whole_home strings whole.chains.first.items whole.chains.next.items c.loop-link.link
-    (whole_home text) c.index-link-in-loop-link.result.now c.requires.whole.linked some (omega (arith, within, len))
+    (whole_home text) c.index-link-in-loop-link.result.now c.requires.whole.chains.linked some
+    (omega (arith, within, len))
     c.loop-link.invariant.walked last c.index-link-in-loop-link.ensures in
     record { within = omega (arith, walk.0, within, some); walked = walk.1 }
 

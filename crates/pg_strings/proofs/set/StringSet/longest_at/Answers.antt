@@ -55,7 +55,8 @@ loop-link-preserved g c =
     let kept = c.longer-longest.result in
     let P : List ℕ → Type 0 = λ s. StandsAs bounds bytes place s → length s ≤ kept in
     let walked = walk_weaker (λ s. StandsAs bounds bytes place s → length s ≤ c.loop-link.longest) P (home set.factor)
-    strings c.loop-link.link h (λ s short occurs. omega (arith, short occurs, longer.low)) c.loop-link.invariant.walked in
+    strings c.loop-link.link h (λ s short occurs. omega (arith, short occurs, longer.low))
+    c.loop-link.invariant.walked in
     let walk = walk_next P (home set.factor) strings set.chains.first.items set.chains.next.items c.loop-link.link h
     c.index-link-in-loop-link.result.now set.linked some (omega (arith, within, len)) walked
     (subst P (sym string) longer.own) c.index-link-in-loop-link.ensures in

@@ -1,9 +1,8 @@
-use Rattle.std.proofs.Common.{◌≡◌, ◌<◌, length, map, max, arith, subst, sym, ◌∙◌}
+use Rattle.std.proofs.Common.{◌<◌, length, map, inl, inr, arith, subst, sym, ◌∙◌}
 use Rattle.std.proofs.lemmas.Bool.{false≢true}
 use Rattle.std.proofs.lemmas.List.{get_or_default}
 use Rattle.pg_strings.specs.Keys.{items_of}
-use Rattle.pg_strings.specs.Sets.{StandsAs, StandsSo}
-use Rattle.pg_strings.proofs.WholeLemmas.{IsLongestOf, longest_more, none_longer}
+use Rattle.pg_strings.proofs.WholeLemmas.{IsLongestOf, longest_more, longest_later, longest_of_all, some_bytes}
 use Rattle.pg_strings.proofs.set.StringSet.longest_whole.Goals as goal
 use Rattle.pg_strings.proofs.set.StringSet.longest_whole.Goals.{then-stands_whole, else-stands_whole}
 
@@ -16,58 +15,59 @@ loop-at-init g c = record {
 pub loop-at-preserved : goal.loop-at-preserved
 loop-at-preserved g c =
     let strings = map items_of c.args.self.now.strings.items in
-    let bounds = c.args.bounds in
-    let bytes = c.args.bytes.now in
-    let place = c.args.place in
     let lengths = c.args.whole.now.lengths.items in
     let at = c.loop-at.at in
     let len = c.index-len.result.now in
-    let before = c.loop-at.longest in
-    let after = c.if-stands_whole.longest in
     let less : at < length lengths = omega (arith, c.loop-at-test.true, c.len-at-end.ensures) in
     let is = c.index-len.ensures ∙ get_or_default lengths at len 0 less in
-    let more = longest_more strings bounds bytes place lengths at before after c.loop-at.invariant.longest in
     record {
       prefix = c.stands_whole.ensures.prefix;
-      longest = elim c.if-stands_whole.branch [
-        | then-stands_whole w ↦
-            let most : after ≡ max len before = w.longest-is ∙ w.max-longest.ensures in
-            more (omega (arith, most)) (λ there. omega (arith, most, is))
-            (λ longer. subst (StandsSo strings bounds bytes place) (omega (arith, most, longer))
-            (c.stands_whole.ensures.stands.0 w.if-stands_whole.true))
-        | else-stands_whole w ↦
-            let same : after ≡ before = w.longest-is in
-            more (omega (arith, same))
-            (λ there. absurd (false≢true (sym w.if-stands_whole.false
-            ∙ c.stands_whole.ensures.stands.1 (subst (StandsSo strings bounds bytes place) (sym is) there))))
-            (λ longer. absurd (omega (arith, same, longer)))
-      ];
+      longest = longest_more strings c.args.bounds c.args.bytes.now c.args.place lengths at len c.loop-at.longest
+          c.if-stands_whole.longest (sym is) (elim c.if-stands_whole.branch [
+            | then-stands_whole w ↦
+                inl (c.stands_whole.ensures.stands.0 w.if-stands_whole.true, w.longest-is ∙ w.max-longest.ensures)
+            | else-stands_whole w ↦ inr (
+              λ there. false≢true (sym w.if-stands_whole.false ∙ c.stands_whole.ensures.stands.1 there),
+              w.longest-is,
+            )
+          ]) c.loop-at.invariant.longest;
     }
 
-pub returns-then-longest-gt0 : goal.returns-then-longest-gt0
-returns-then-longest-gt0 g c =
-    let strings = map items_of c.args.self.now.strings.items in
+pub returns-then-is_last : goal.returns-then-is_last
+returns-then-is_last g c =
+    let set = c.args.self.now in
+    let strings = map items_of set.strings.items in
     let whole = c.args.whole.now in
     let lengths = whole.lengths.items in
-    let last = c.loop-at.auto.at-end in
-    let all = subst (λ n. IsLongestOf strings c.args.bounds c.args.bytes.now c.args.place lengths n c.loop-at.longest)
-    (omega (arith, last, c.loop-at-test.false, c.len-at-end.ensures)) c.loop-at.invariant.longest in (
-      c.loop-at.invariant.longest.stands c.if-longest-gt0.true,
-      none_longer lengths whole.chains.first.items whole.chains.next.items strings c.args.bounds
-          c.args.bytes.now c.args.place c.loop-at.longest c.requires.whole all,
-    )
+    let at = c.loop-at.at in
+    let len = c.index-len.result.now in
+    let longest = c.if-stands_whole.longest in
+    let less : at < length lengths = omega (arith, c.loop-at-test.true, c.len-at-end.ensures) in
+    let is = c.index-len.ensures ∙ get_or_default lengths at len 0 less in
+    let found = longest_more strings c.args.bounds c.args.bytes.now c.args.place lengths at len c.loop-at.longest
+    longest (sym is) (elim c.if-stands_whole.branch [
+      | then-stands_whole w ↦
+          inl (c.stands_whole.ensures.stands.0 w.if-stands_whole.true, w.longest-is ∙ w.max-longest.ensures)
+      | else-stands_whole w ↦ inr (
+        λ there. false≢true (sym w.if-stands_whole.false ∙ c.stands_whole.ensures.stands.1 there),
+        w.longest-is,
+      )
+    ]) c.loop-at.invariant.longest in
+    let last = c.is_last.ensures c.if-is_last.true c.args.bytes.now c.args.place c.stands_whole.ensures.prefix in
+    longest_of_all lengths whole.chains.first.items whole.chains.next.items strings c.args.bounds c.args.bytes.now
+    c.args.place longest c.requires.whole.chains (some_bytes set.width strings set.long)
+    (longest_later strings c.args.bounds c.args.bytes.now c.args.place lengths at longest c.requires.whole.rises last
+    found) c.unless_zero.result c.unless_zero.ensures
 
-pub returns-else-longest-gt0 : goal.returns-else-longest-gt0
-returns-else-longest-gt0 g c = λ some.
-    let strings = map items_of c.args.self.now.strings.items in
+pub returns : goal.returns
+returns g c =
+    let set = c.args.self.now in
+    let strings = map items_of set.strings.items in
     let whole = c.args.whole.now in
     let lengths = whole.lengths.items in
     let last = c.loop-at.auto.at-end in
-    let test = c.if-longest-gt0.false in
-    let all = subst (λ n. IsLongestOf strings c.args.bounds c.args.bytes.now c.args.place lengths n c.loop-at.longest)
-    (omega (arith, last, c.loop-at-test.false, c.len-at-end.ensures)) c.loop-at.invariant.longest in
-    let most = none_longer lengths whole.chains.first.items whole.chains.next.items strings c.args.bounds
-    c.args.bytes.now c.args.place c.loop-at.longest c.requires.whole all some.0 some.1 some.2
-    (subst (StandsAs c.args.bounds c.args.bytes.now c.args.place) (sym some.3) some.4) in
-    let long = (c.args.self.now.long some.0 some.1 some.2).0 in
-    absurd (omega (arith, most, long, test))
+    longest_of_all lengths whole.chains.first.items whole.chains.next.items strings c.args.bounds c.args.bytes.now
+    c.args.place c.loop-at.longest c.requires.whole.chains (some_bytes set.width strings set.long)
+    (subst (λ n. IsLongestOf strings c.args.bounds c.args.bytes.now c.args.place lengths n c.loop-at.longest)
+    (omega (arith, last, c.loop-at-test.false, c.len-at-end.ensures)) c.loop-at.invariant.longest)
+    c.unless_zero-2.result c.unless_zero-2.ensures

@@ -1,7 +1,9 @@
 use Rattle.std.proofs.Common.{◌≡◌, ◌<◌, ◌++◌, ◌∷◌, [], length, map, arith, sym, ap, ◌∙◌, subst, get_or, take}
 use Rattle.std.proofs.lemmas.List.{length-map, take_more}
+use Rattle.std.proofs.lemmas.List.Sorted.{IsNonDecreasingBy-from_sort}
+use Rattle.std.specs.List.{All}
 use Rattle.pg_strings.specs.Keys.{items_of}
-use Rattle.pg_strings.specs.Whole.{AreWhole}
+use Rattle.pg_strings.specs.Whole.{AreWhole, IsFlaggedAt}
 use Rattle.pg_strings.proofs.PlaceLemmas.{string_at, take_whole}
 use Rattle.pg_strings.proofs.WholeLemmas.{whole_moved}
 use Rattle.pg_strings.proofs.whole.WholeStrings.new.Goals as goal
@@ -32,7 +34,13 @@ returns g c =
       c.loop-place-test.false,
       length-map c.args.strings.now items_of,
     )) in
-    whole_moved whole.lengths.items c.sort_unstable.new.self.items whole.chains.first.items whole.chains.next.items
-    strings c.sort_unstable.ensures.permutation
-    (subst (λ xs. AreWhole whole.lengths.items whole.chains.first.items whole.chains.next.items xs) all
-    c.loop-place.invariant)
+    record {
+      chains = whole_moved whole.lengths.items c.sort_unstable.new.self.items whole.chains.first.items
+          whole.chains.next.items strings c.sort_unstable.ensures.permutation
+          (subst (λ xs. AreWhole whole.lengths.items whole.chains.first.items whole.chains.next.items xs) all
+          c.loop-place.invariant);
+      rises = IsNonDecreasingBy-from_sort (λ x. x) c.sort_unstable.new.self.items c.sort_unstable.ensures.sorted;
+      all_flags = c.in_ok-whole.ensures.all;
+      flagged = subst (λ lengths. All (IsFlaggedAt lengths c.in_ok-whole.field-0.items) strings)
+          c.as_slice.ensures.value c.in_ok-whole.ensures.flagged;
+    }
