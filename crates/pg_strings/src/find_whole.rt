@@ -73,7 +73,7 @@ impl<A: Allocator> StringSet<A> {
     }
 
     /// Whether none of the strings that stand at a place is longer than the length at this place of the lengths, as is
-    /// known where so many bytes were looked for.
+    /// known where so many bytes were looked for. Of the greatest length it isn't asked.
     #[inline(always)]
     fn is_last(&self, whole: &WholeStrings<A>, at: usize, prefix: &Prefix) -> bool
         requires whole { IsWholeOf whole.now (strings_of self.now) }
@@ -81,6 +81,9 @@ impl<A: Allocator> StringSet<A> {
         ensures { IsTrue result → (bytes : List ℕ) (place : ℕ) → IsPrefix bytes place prefix.now
             → NoneLonger (strings_of self.now) bytes place (slice_index whole.now.lengths.items at) }
     {
+        if at + 1 == whole.lengths.len() {
+            return false;
+        }
         whole.lengths[at] == prefix.len && !whole.flags[flag_of(prefix.number)]
     }
 
