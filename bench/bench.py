@@ -196,7 +196,7 @@ def cases(folder, megabytes):
     write(folder / "beginnings", "".join(f"{it}\n" for it in texts.beginnings(words[:300])).encode())
     write(folder / "folders", "".join(f"{it}\n" for it in texts.folders(words[20:60], 1_200)).encode())
     write(folder / "opened", texts.opened(words[20:60], 10))
-    write(folder / "names", "".join(f"{it}\n" for it in texts.names(words[20:26], 1_500)).encode())
+    write(folder / "names", "".join(f"{it}\n" for it in texts.names(words[20:26], 1_000)).encode())
     write(folder / "dotted", texts.dotted(words[20:26], 5))
     write(folder / "nested", texts.nested(0, 208))
     write(folder / "nested-later", texts.nested(1, 208))
