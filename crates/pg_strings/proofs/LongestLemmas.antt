@@ -1,7 +1,8 @@
 -- The longest of the strings that stand at a place, for `longest_at` and `contains`.
 use Rattle.std.proofs.Common.{◌≡◌, ℕ, ◌<◌, ◌≤◌, List, [], length, take, get_or, sym, ap, ◌∙◌, arith}
-use Rattle.std.proofs.Common.{inl, inr, ◌↔◌, IsTrue, Bool, Option, None, Some, is_some, zero-add}
-use Rattle.std.specs.Prelude.{Contains}
+use Rattle.std.proofs.Common.{subst, inl, inr, ◌↔◌, IsTrue, Bool, Option, None, Some, is_some, zero-add}
+use Rattle.std.specs.Prelude.{Contains, MatchOption}
+use Rattle.std.specs.List.{All}
 use Rattle.std.proofs.Math.Seq.{take-length}
 use Rattle.memchr.proofs.lemmas.MatchLemmas.{OccursAt-part}
 use Rattle.std.proofs.lemmas.Bool.{cases_lt, false≢true}
@@ -9,7 +10,8 @@ use Rattle.std.proofs.lemmas.List.{get_or_default}
 use Rattle.memchr.specs.Find.{OccursAt}
 use Rattle.pg_pattern.specs.declared.bounds.Bounds.{Bounds}
 use Rattle.pg_pattern.specs.declared.bounds.Bounds.TheVariants.{Whole}
-use Rattle.pg_strings.specs.Sets.{StandsAs, SomeStandsAs}
+use Rattle.pg_strings.specs.Keys.{AreLong}
+use Rattle.pg_strings.specs.Sets.{StandsAs, SomeStandsAs, StandsSo}
 use Rattle.pg_strings.specs.Outcomes.{IsLongestAt}
 use Rattle.pg_strings.specs.Short.{IsLongestShort}
 
@@ -30,6 +32,27 @@ short_kept strings bounds bytes place i before string kept less at low own was =
       let high = was.longest k d few stands short in
       omega (arith, high, low);
 }
+
+-- each string has a byte
+pub some_bytes : (width : ℕ) (strings : List (List ℕ)) → AreLong width strings
+    → All (λ string. 1 ≤ length string) strings
+some_bytes width strings are_long k d less = (are_long k d less).0
+
+-- the greatest length of those that stand is told, unless it is 0
+pub longest_told : (strings : List (List ℕ)) (bounds : Bounds) (bytes : List ℕ) (place longest : ℕ)
+    → All (λ string. 1 ≤ length string) strings → (0 < longest → StandsSo strings bounds bytes place longest)
+    → All (λ string. StandsAs bounds bytes place string → length string ≤ longest) strings → (result : Option ℕ)
+    → MatchOption result (longest ≡ 0) (λ n. (0 < n) × (n ≡ longest)) → IsLongestAt strings bounds bytes place result
+longest_told strings bounds bytes place longest some stands most None none = λ (i, string, less, at, there).
+    let high = subst (λ t. StandsAs bounds bytes place t → length t ≤ longest) at (most i string less) there in
+    let long = subst (λ (t : List ℕ). 1 ≤ length t) at (some i string less) in
+    absurd (omega (arith, high, long, none))
+longest_told strings bounds bytes place longest some stands most (Some n) (more, is) = (
+  subst (StandsSo strings bounds bytes place) (sym is) (stands (omega (arith, more, is))),
+  λ k d less there.
+      let high = most k d less there in
+      omega (arith, high, is),
+)
 
 -- the line stands at its own begin
 stands_whole : (line : List ℕ) → OccursAt line line 0

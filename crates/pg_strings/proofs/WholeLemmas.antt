@@ -1,9 +1,9 @@
--- Strings that are known by all their bytes: for `Prefix`, `WholeStrings` and the searches in find_whole.rt.
+-- Strings that are known by all their bytes: for `PrefixHash`, `WholeStrings` and the searches in find_whole.rt.
 use Rattle.std.proofs.Common.{◌≡◌, ℕ, ◌+◌, ◌-◌, ◌*◌, ◌%◌, ◌<◌, ◌≤◌, ◌↔◌, ◌++◌, ◌∷◌, ◌||◌}
 use Rattle.std.proofs.Common.{IsTrue, Bool, true, false, not, take-take}
 use Rattle.std.proofs.Common.{List, [], length, map, drop, take, get_or, refl, sym, ap, ◌∙◌, arith}
 use Rattle.std.proofs.Common.{subst, max, ◌⊎◌, inl, inr}
-use Rattle.std.specs.Prelude.{nat_eq, Contains, slice_index_or, MatchOption, Option, None, Some}
+use Rattle.std.specs.Prelude.{nat_eq, Contains, slice_index_or, MatchOption, Option}
 use Rattle.std.specs.List.{All, list_any, sum_by}
 use Rattle.std.proofs.lemmas.Bool.{eqb-true, eq-eqb, cases_lt, false≢true}
 use Rattle.std.proofs.lemmas.List.{get_or_default, map-append}
@@ -17,35 +17,36 @@ use Rattle.std.proofs.lemmas.List.Sums.{sum_by-append}
 use Rattle.std.proofs.Math.Bool.{or-true}
 use Rattle.memchr.specs.Find.{OccursAt}
 use Rattle.memchr.proofs.lemmas.MatchLemmas.{OccursAt-part, OccursAt-from_part}
-use Rattle.pg_strings.specs.Keys.{AreChains, AreLong}
+use Rattle.pg_strings.specs.Keys.{AreChains}
 use Rattle.pg_pattern.specs.Bounds.{MayEnd}
 use Rattle.pg_pattern.specs.declared.bounds.Bounds.{Bounds}
 use Rattle.pg_strings.specs.Outcomes.{IsLongestAt}
 use Rattle.pg_strings.specs.Sets.{StandsAs, SomeStandsAs, StandsSo}
-use Rattle.pg_strings.specs.Whole.{AreWhole, IsFlaggedAt, KeepsFlags, NoneLonger, flag_by, number_behind, whole_home}
+use Rattle.pg_strings.specs.Whole.{AreWhole, IsFlaggedAt, KeepsFlags, NoneLonger, flag_by, hash_behind, whole_home}
 use Rattle.pg_strings.proofs.WalkLemmas.{IsWalked}
+use Rattle.pg_strings.proofs.LongestLemmas.{longest_told}
 
--- the number of bytes behind others
-number_appended : (before : ℕ) (xs ys : List ℕ)
-    → number_behind before (xs ++ ys) ≡ number_behind (number_behind before xs) ys
-number_appended before [] ys = refl
-number_appended before (x ∷ xs) ys =
-    number_appended ((before * 11400714819323198485 % 18446744073709551616 + x) % 18446744073709551616) xs ys
+-- the hash of bytes behind others
+hash_appended : (before : ℕ) (xs ys : List ℕ)
+    → hash_behind before (xs ++ ys) ≡ hash_behind (hash_behind before xs) ys
+hash_appended before [] ys = refl
+hash_appended before (x ∷ xs) ys =
+    hash_appended ((before * 11400714819323198485 % 18446744073709551616 + x) % 18446744073709551616) xs ys
 
--- the number of some bytes from a place on, and that of those up to more of them
-pub prefix_more : (bytes : List ℕ) (place less more number : ℕ) → less ≤ more
-    → number ≡ number_behind 0 (take less (drop place bytes))
-    → number_behind number (take (place + more - (place + less)) (drop (place + less) bytes))
-    ≡ number_behind 0 (take more (drop place bytes))
-prefix_more bytes place less more number low is =
+-- the hash of some bytes from a place on, and that of those up to more of them
+pub prefix_more : (bytes : List ℕ) (place less more hash : ℕ) → less ≤ more
+    → hash ≡ hash_behind 0 (take less (drop place bytes))
+    → hash_behind hash (take (place + more - (place + less)) (drop (place + less) bytes))
+    ≡ hash_behind 0 (take more (drop place bytes))
+prefix_more bytes place less more hash low is =
     let rest = drop place bytes in
     let e : less + (more - less) ≡ more = omega (arith, low) in
     let n : place + more - (place + less) ≡ more - less = omega (arith, low) in
     let all : take more rest ≡ take less rest ++ take (more - less) (drop less rest) =
     ap (λ k. take k rest) (sym e) ∙ take-add less (more - less) rest in
-    ap (λ k. number_behind k (take (place + more - (place + less)) (drop (place + less) bytes))) is
-    ∙ (sym (number_appended 0 (take less rest) (take (place + more - (place + less)) (drop (place + less) bytes)))
-    ∙ ap (number_behind 0) (ap (λ k. take less rest ++ take k (drop (place + less) bytes)) n
+    ap (λ k. hash_behind k (take (place + more - (place + less)) (drop (place + less) bytes))) is
+    ∙ (sym (hash_appended 0 (take less rest) (take (place + more - (place + less)) (drop (place + less) bytes)))
+    ∙ ap (hash_behind 0) (ap (λ k. take less rest ++ take k (drop (place + less) bytes)) n
     ∙ (ap (λ xs. take less rest ++ take (more - less) xs) (sym (drop-drop less place bytes)) ∙ sym all)))
 
 -- lengths in another order
@@ -201,10 +202,10 @@ unset true h = absurd (false≢true h)
 
 -- where bytes have no flag no string that stands there is longer
 pub none_flagged : (strings : List (List ℕ)) (lengths : List ℕ) (flags : List Bool) (bytes : List ℕ)
-    (place at number : ℕ) → All (IsFlaggedAt lengths flags) strings → at < length lengths
-    → number ≡ number_behind 0 (take (get_or lengths at 0) (drop place bytes))
-    → slice_index_or flags (flag_by number) true ≡ false → NoneLonger strings bytes place (get_or lengths at 0)
-none_flagged strings lengths flags bytes place at number flagged within is clear k d less occurs =
+    (place at hash : ℕ) → All (IsFlaggedAt lengths flags) strings → at < length lengths
+    → hash ≡ hash_behind 0 (take (get_or lengths at 0) (drop place bytes))
+    → slice_index_or flags (flag_by hash) true ≡ false → NoneLonger strings bytes place (get_or lengths at 0)
+none_flagged strings lengths flags bytes place at hash flagged within is clear k d less occurs =
     let string = get_or strings k d in
     let len = get_or lengths at 0 in
     elim (cases_lt len (length string)) [
@@ -213,8 +214,8 @@ none_flagged strings lengths flags bytes place at number flagged within is clear
           ap (take len) (sym (OccursAt-part bytes string place occurs))
           ∙ take-take len (length string) (drop place bytes) (omega (arith, longer)) in
           let set = flagged k d less at 0 within longer in
-          let told : slice_index_or flags (flag_by number) true ≡ true =
-          ap (λ n. slice_index_or flags (flag_by n) true) (is ∙ ap (number_behind 0) (sym same)) ∙ set in
+          let told : slice_index_or flags (flag_by hash) true ≡ true =
+          ap (λ n. slice_index_or flags (flag_by n) true) (is ∙ ap (hash_behind 0) (sym same)) ∙ set in
           absurd (false≢true (sym clear ∙ told))
       | inr short ↦ omega (arith, short)
     ]
@@ -314,32 +315,17 @@ none_longer lengths first next strings bounds bytes place longest whole found k 
     ) in
     omega (arith, high, at.2)
 
--- each string has a byte
-pub some_bytes : (width : ℕ) (strings : List (List ℕ)) → AreLong width strings
-    → All (λ string. 1 ≤ length string) strings
-some_bytes width strings are_long k d less = (are_long k d less).0
-
 -- so that is the longest string that stands, if any does
 pub longest_of_all : (lengths first next : List ℕ) (strings : List (List ℕ)) (bounds : Bounds) (bytes : List ℕ)
     (place longest : ℕ) → AreWhole lengths first next strings → All (λ string. 1 ≤ length string) strings
     → IsLongestOf strings bounds bytes place lengths (length lengths) longest → (result : Option ℕ)
     → MatchOption result (longest ≡ 0) (λ n. (0 < n) × (n ≡ longest)) → IsLongestAt strings bounds bytes place result
-longest_of_all lengths first next strings bounds bytes place longest whole some found None none =
-    λ (i, string, less, at, stands).
-    let high = none_longer lengths first next strings bounds bytes place longest whole found in
-    let most = subst (λ t. StandsAs bounds bytes place t → length t ≤ longest) at (high i string less) stands in
-    let long = subst (λ (t : List ℕ). 1 ≤ length t) at (some i string less) in
-    absurd (omega (arith, most, long, none))
-longest_of_all lengths first next strings bounds bytes place longest whole some found (Some n) (more, is) =
-    let high = none_longer lengths first next strings bounds bytes place longest whole found in (
-      subst (StandsSo strings bounds bytes place) (sym is) (found.stands (omega (arith, more, is))),
-      λ k d less stands.
-          let most = high k d less stands in
-          omega (arith, most, is),
-    )
+longest_of_all lengths first next strings bounds bytes place longest whole some found result told =
+    longest_told strings bounds bytes place longest some found.stands
+    (none_longer lengths first next strings bounds bytes place longest whole found) result told
 
 -- a string whose beginnings are flagged, where flags are kept
 pub flagged_kept : (lengths : List ℕ) (before after : List Bool) → KeepsFlags before after → (string : List ℕ)
     → IsFlaggedAt lengths before string → IsFlaggedAt lengths after string
 flagged_kept lengths before after keeps string flagged k d less longer =
-    keeps (flag_by (number_behind 0 (take (get_or lengths k d) string))) (flagged k d less longer)
+    keeps (flag_by (hash_behind 0 (take (get_or lengths k d) string))) (flagged k d less longer)

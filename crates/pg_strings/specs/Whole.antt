@@ -7,31 +7,31 @@ use Rattle.std.specs.List.Sorted.{IsNonDecreasing}
 use Rattle.memchr.specs.Find.{OccursAt}
 use Rattle.pg_strings.specs.Keys.{AreChains}
 use Rattle.pg_strings.specs.Sets.{work}
-use Rattle.pg_strings.specs.declared.whole.Prefix.{Prefix}
+use Rattle.pg_strings.specs.declared.whole.PrefixHash.{PrefixHash}
 use Rattle.pg_strings.specs.declared.whole.WholeStrings.{WholeStrings}
 
--- a number of a text's bytes, behind others that have this one
-abbrev pub number_behind : ℕ → List ℕ → ℕ
-number_behind before [] = before
-number_behind before (byte ∷ text) =
-    number_behind ((before * 11400714819323198485 % 18446744073709551616 + byte) % 18446744073709551616) text
+-- a hash of a text's bytes, behind others that have this one
+abbrev pub hash_behind : ℕ → List ℕ → ℕ
+hash_behind before [] = before
+hash_behind before (byte ∷ text) =
+    hash_behind ((before * 11400714819323198485 % 18446744073709551616 + byte) % 18446744073709551616) text
 
--- the chain of the strings that have a number
+-- the chain of the strings that have a hash
 abbrev pub home_by : ℕ → ℕ
-home_by number = number * 11400714819323198485 % 18446744073709551616 / 2251799813685248
+home_by hash = hash * 11400714819323198485 % 18446744073709551616 / 2251799813685248
 
 -- the chain of a string, by all its bytes
 abbrev pub whole_home : List ℕ → ℕ
-whole_home string = home_by (number_behind 0 string)
+whole_home string = home_by (hash_behind 0 string)
 
--- the flag of the beginnings of strings that have a number
+-- the flag of the beginnings of strings that have a hash
 abbrev pub flag_by : ℕ → ℕ
-flag_by number = number * 11400714819323198485 % 18446744073709551616 / 140737488355328
+flag_by hash = hash * 11400714819323198485 % 18446744073709551616 / 140737488355328
 
 -- each beginning of the string that has one of the lengths, and isn't all of it, is flagged
 abbrev pub IsFlaggedAt : (lengths : List ℕ) (flags : List Bool) → List ℕ → Type 0
 IsFlaggedAt lengths flags string = All (λ len. len < length string
-    → slice_index_or flags (flag_by (number_behind 0 (take len string))) true ≡ true) lengths
+    → slice_index_or flags (flag_by (hash_behind 0 (take len string))) true ≡ true) lengths
 
 -- a flag that was set is set
 abbrev pub KeepsFlags : (before after : List Bool) → Type 0
@@ -41,10 +41,10 @@ KeepsFlags before after = (k : ℕ) → slice_index_or before k true ≡ true �
 abbrev pub NoneLonger : List (List ℕ) → List ℕ → ℕ → ℕ → Type 0
 NoneLonger strings bytes place len = All (λ string. OccursAt bytes string place → length string ≤ len) strings
 
--- it has the number of so many bytes from a place on
-pub record IsPrefix (bytes : List ℕ) (place : ℕ) (prefix : Prefix) : Type 0 where
+-- it has the hash of so many bytes from a place on
+pub record IsPrefixHash (bytes : List ℕ) (place : ℕ) (prefix : PrefixHash) : Type 0 where
   pub within : place + prefix.len ≤ length bytes
-  pub number : prefix.number ≡ number_behind 0 (take prefix.len (drop place bytes))
+  pub hash : prefix.hash ≡ hash_behind 0 (take prefix.len (drop place bytes))
 
 -- The length of each string is among these, which cost no more to look at than the strings; and the strings are in
 -- chains by all their bytes.

@@ -6,7 +6,7 @@ ghost use Rattle.pg_strings.specs.Outcomes.{strings_of};
 ghost use Rattle.pg_strings.specs.Whole.{KnowsWhole};
 
 use crate::chains::{CHAINS, Chains};
-use crate::key::{KEYS, SHARE, factor_of, last_key_at};
+use crate::key::{SHARE, factor_of, last_key_at, no_flags};
 use crate::set::StringSet;
 use crate::short::ShortStrings;
 use crate::whole::{WholeStrings, has_long_chain};
@@ -25,13 +25,6 @@ fn width_of<A: Allocator>(strings: &[Vec<u8, A>]) -> usize
         }
     }
     width
-}
-
-/// Flags, none of them set.
-fn no_flags<A: Allocator + Copy>(alloc: A) -> Result<Vec<bool, A>, AllocError>
-    ensures { IfOk result (λ flags. length flags.items ≡ 131072) }
-{
-    vec![in alloc; false; KEYS]
 }
 
 /// Tables of the strings by all their bytes, if some chain by their first bytes has many of them.

@@ -7,15 +7,14 @@ ghost use Rattle.pg_strings.specs.Sets.{StandsAs};
 use crate::budget::Budget;
 use pg_pattern::Bounds;
 
-/// How many bytes are compared, or make a number, for what looking at one more string, or length, costs.
+/// How many bytes are compared, or hashed, for what looking at one more string, or length, costs.
 pub(crate) const STRIDE: usize = 8;
 
 /// Whether so many bytes from a place on are there, and a match may end behind them.
 #[inline(always)]
 pub(crate) fn fits(bounds: Bounds, len: usize, bytes: &[u8], place: usize) -> bool
     requires { place ≤ length bytes.now }
-    ensures fits { IsTrue result → place + len ≤ length bytes.now }
-    ensures exact { IsTrue result ↔ (place + len ≤ length bytes.now) × MayEnd bounds bytes.now (place + len) }
+    ensures { IsTrue result ↔ (place + len ≤ length bytes.now) × MayEnd bounds bytes.now (place + len) }
 {
     len <= bytes.len() - place && bounds.may_end(bytes, place + len)
 }

@@ -31,7 +31,8 @@ fn next_begin(bounds: Bounds, bytes: &[u8], from: usize) -> usize
 }
 
 impl<A: Allocator> StringSet<A> {
-    /// The first place at or behind `from` at which some string stands, as far as the budget goes.
+    /// The first place at or behind `from`, which is at most the number of bytes, at which some string stands, as far
+    /// as the budget goes.
     ///
     /// Looking at one place compares each string at most once. Where the budget is used up, the search gives up.
     #[inline(never)]

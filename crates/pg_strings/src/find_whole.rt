@@ -1,25 +1,19 @@
 //! The search for strings by all their bytes, where many begin alike.
 ghost use Rattle.std.specs.Prelude.{◌≡◌, ◌+◌, ◌<◌, ◌≤◌, ◌↔◌, ℕ, List, length, slice_index};
-ghost use Rattle.std.specs.Prelude.{IfSome, IsTrue, MatchOption, Contains};
+ghost use Rattle.std.specs.Prelude.{IfSome, IsTrue, Contains};
 ghost use Rattle.pg_pattern.specs.Bounds.{MayBegin};
 ghost use Rattle.pg_strings.specs.Sets.{SomeHit, StandsSo, work};
 ghost use Rattle.pg_strings.specs.Outcomes.{strings_of, IsLongestAt, IsLook};
-ghost use Rattle.pg_strings.specs.Whole.{IsPrefix, IsWholeOf, NoneLonger, number_behind};
+ghost use Rattle.pg_strings.specs.Whole.{IsPrefixHash, IsWholeOf, NoneLonger, hash_behind};
 
 use crate::budget::Budget;
 use crate::compare::{fits, is_text};
+use crate::longest::unless_zero;
 use crate::outcome::Look;
 use crate::set::StringSet;
-use crate::whole::{Prefix, WholeStrings, chain_of, flag_of};
+use crate::whole::{PrefixHash, WholeStrings, chain_of, flag_of};
 use pg_pattern::Bounds;
 use std::alloc::Allocator;
-
-/// A length, unless it is 0.
-fn unless_zero(len: usize) -> Option<usize>
-    ensures { MatchOption result (len ≡ 0) (λ n. (0 < n) × (n ≡ len)) }
-{
-    if len > 0 { Some(len) } else { None }
-}
 
 impl<A: Allocator> StringSet<A> {
     /// The tables by all bytes, if a chain by first bytes has many strings.
@@ -32,13 +26,13 @@ impl<A: Allocator> StringSet<A> {
         }
     }
 
-    /// Whether a text, which has this number, is one of the strings.
-    pub(crate) fn has_whole(&self, whole: &WholeStrings<A>, number: u64, text: &[u8]) -> bool
+    /// Whether a text, which has this hash, is one of the strings.
+    pub(crate) fn has_whole(&self, whole: &WholeStrings<A>, hash: u64, text: &[u8]) -> bool
         requires whole { IsWholeOf whole.now (strings_of self.now) }
-        requires number { number ≡ number_behind 0 text.now }
+        requires hash { hash ≡ hash_behind 0 text.now }
         ensures { IsTrue result ↔ Contains (strings_of self.now) text.now }
     {
-        let mut link = whole.chains.first[chain_of(number)];
+        let mut link = whole.chains.first[chain_of(hash)];
         while link > 0 {
             if is_text(&self.strings[link - 1], text) {
                 return true;
@@ -48,7 +42,8 @@ impl<A: Allocator> StringSet<A> {
         false
     }
 
-    /// Whether a string of this length stands at a place and ends where a match may.
+    /// Whether a string of this length stands at a place and ends where a match may. The hash is that of some bytes from
+    /// the place on; it goes on to so many where these are looked for.
     #[inline(always)]
     fn stands_whole(
         &self,
@@ -57,34 +52,34 @@ impl<A: Allocator> StringSet<A> {
         bounds: Bounds,
         bytes: &[u8],
         place: usize,
-        prefix: &mut Prefix,
+        prefix: &mut PrefixHash,
     ) -> bool
         requires whole { IsWholeOf whole.now (strings_of self.now) }
         requires place { place ≤ length bytes.now }
-        requires prefix { IsPrefix bytes.now place prefix.old }
+        requires prefix { IsPrefixHash bytes.now place prefix.old }
         ensures stands { IsTrue result ↔ StandsSo (strings_of self.now) bounds bytes.now place len }
-        ensures prefix { IsPrefix bytes.now place prefix.new }
+        ensures prefix { IsPrefixHash bytes.now place prefix.new }
     {
         if !fits(bounds, len, bytes, place) {
             return false;
         }
         prefix.reach(len, bytes, place);
-        self.has_whole(whole, prefix.number, &bytes[place..place + len])
+        self.has_whole(whole, prefix.hash, &bytes[place..place + len])
     }
 
     /// Whether none of the strings that stand at a place is longer than the length at this place of the lengths, as is
     /// known where so many bytes were looked for. Of the greatest length it isn't asked.
     #[inline(always)]
-    fn is_last(&self, whole: &WholeStrings<A>, at: usize, prefix: &Prefix) -> bool
+    fn is_last(&self, whole: &WholeStrings<A>, at: usize, prefix: &PrefixHash) -> bool
         requires whole { IsWholeOf whole.now (strings_of self.now) }
         requires at { at < length whole.now.lengths.items }
-        ensures { IsTrue result → (bytes : List ℕ) (place : ℕ) → IsPrefix bytes place prefix.now
+        ensures { IsTrue result → (bytes : List ℕ) (place : ℕ) → IsPrefixHash bytes place prefix.now
             → NoneLonger (strings_of self.now) bytes place (slice_index whole.now.lengths.items at) }
     {
         if at + 1 == whole.lengths.len() {
             return false;
         }
-        whole.lengths[at] == prefix.len && !whole.flags[flag_of(prefix.number)]
+        whole.lengths[at] == prefix.len && !whole.flags[flag_of(prefix.hash)]
     }
 
     /// Whether some string stands at a place, where a match may begin, and ends where one may.
@@ -103,7 +98,7 @@ impl<A: Allocator> StringSet<A> {
         ensures less { budget.new.left ≤ budget.old.left }
         ensures cost { budget.old.left ≤ budget.new.left + work (strings_of self.now) }
     {
-        let mut prefix = Prefix::empty();
+        let mut prefix = PrefixHash::empty();
         for at in 0..whole.lengths.len() {
             let len = whole.lengths[at];
             if budget.left == 0 {
@@ -132,7 +127,7 @@ impl<A: Allocator> StringSet<A> {
         requires place { place ≤ length bytes.now }
         ensures { IsLongestAt (strings_of self.now) bounds bytes.now place result }
     {
-        let mut prefix = Prefix::empty();
+        let mut prefix = PrefixHash::empty();
         let mut longest = 0;
         for at in 0..whole.lengths.len() {
             let len = whole.lengths[at];

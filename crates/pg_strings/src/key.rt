@@ -1,13 +1,15 @@
 //! Keys of the bytes at a place.
-ghost use Rattle.std.specs.Prelude.{◌≡◌, ◌+◌, ◌*◌, ◌/◌, ◌%◌, ◌<◌, ◌≤◌, length, drop, slice_index};
+ghost use Rattle.std.specs.Prelude.{◌≡◌, ◌+◌, ◌*◌, ◌/◌, ◌%◌, ◌<◌, ◌≤◌, length, drop, slice_index, IfOk};
 ghost use Rattle.std.specs.Int.{w64, from_le_bytes};
 ghost use Rattle.pg_strings.specs.Keys.{key, Weighs};
+
+use std::alloc::{AllocError, Allocator};
 
 /// A number that mixes well: 2^64 over the golden ratio.
 pub(crate) const MIX: u64 = 0x9E37_79B9_7F4A_7C15;
 
 /// How many keys there are.
-pub(crate) const KEYS: usize = 131_072;
+const KEYS: usize = 131_072;
 
 /// How many keys share a chain.
 pub(crate) const SHARE: usize = 16;
@@ -72,9 +74,16 @@ fn last_window(bytes: &[u8], at: usize) -> u64
     ])
 }
 
+/// A flag for each key, none of them set.
+pub(crate) fn no_flags<A: Allocator + Copy>(alloc: A) -> Result<Vec<bool, A>, AllocError>
+    ensures { IfOk result (λ flags. length flags.items ≡ 131072) }
+{
+    vec![in alloc; false; KEYS]
+}
+
 /// The key of a window.
 #[inline(always)]
-fn key_of(factor: u64, window: u64) -> usize
+pub(crate) fn key_of(factor: u64, window: u64) -> usize
     ensures few { result < 131072 }
     ensures value { result ≡ (window * factor) % 18446744073709551616 / 140737488355328 }
 {

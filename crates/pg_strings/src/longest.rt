@@ -1,5 +1,5 @@
 //! The longest string that stands at a place and ends where a match may.
-ghost use Rattle.std.specs.Prelude.{◌≡◌, ◌<◌, ◌≤◌, ◌↔◌, length, IsTrue, Contains};
+ghost use Rattle.std.specs.Prelude.{◌≡◌, ◌<◌, ◌≤◌, ◌↔◌, length, IsTrue, MatchOption, Contains};
 ghost use Rattle.pg_strings.specs.Sets.{StandsAs};
 ghost use Rattle.pg_strings.specs.Outcomes.{strings_of, IsLongestAt};
 ghost use Rattle.pg_strings.specs.Short.{IsLongestShort};
@@ -7,7 +7,7 @@ ghost use Rattle.pg_strings.specs.Short.{IsLongestShort};
 use crate::compare::stands;
 use crate::key::{SHARE, last_key_at};
 use crate::set::StringSet;
-use crate::whole::number_of;
+use crate::whole::hash_of;
 use pg_pattern::Bounds;
 use std::alloc::Allocator;
 
@@ -27,6 +27,13 @@ fn longer(longest: usize, string: &[u8], bounds: Bounds, bytes: &[u8], place: us
     }
 }
 
+/// A length, unless it is 0.
+pub(crate) fn unless_zero(len: usize) -> Option<usize>
+    ensures { MatchOption result (len ≡ 0) (λ n. (0 < n) × (n ≡ len)) }
+{
+    if len > 0 { Some(len) } else { None }
+}
+
 impl<A: Allocator> StringSet<A> {
     /// The length of the longest string of one or two bytes that stands at a place and ends where a match may, or 0
     /// where none does.
@@ -41,8 +48,8 @@ impl<A: Allocator> StringSet<A> {
         }
     }
 
-    /// The length of the longest string that stands at a place and ends where a match may, if any does. Each string is
-    /// compared at most once.
+    /// The length of the longest string that stands at a place and ends where a match may, if any does. The place is at
+    /// most the number of bytes. Each string is compared at most once.
     #[inline(always)]
     pub fn longest_at(&self, bounds: Bounds, bytes: &[u8], place: usize) -> Option<usize>
         requires { place ≤ length bytes.now }
@@ -58,7 +65,7 @@ impl<A: Allocator> StringSet<A> {
             longest = longer(longest, &self.strings[link - 1], bounds, bytes, place);
             link = self.chains.next[link - 1];
         }
-        if longest > 0 { Some(longest) } else { None }
+        unless_zero(longest)
     }
 
     /// Whether a whole line is one of the strings.
@@ -67,7 +74,7 @@ impl<A: Allocator> StringSet<A> {
     {
         let key = last_key_at(self.factor, line, 0);
         if let Some(whole) = self.whole_for(key / SHARE) {
-            return self.has_whole(whole, number_of(line), line);
+            return self.has_whole(whole, hash_of(line), line);
         }
         self.longest_at(Bounds::Whole, line, 0).is_some()
     }

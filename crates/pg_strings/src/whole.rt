@@ -2,68 +2,65 @@
 ghost use Rattle.std.specs.Prelude.{◌≡◌, ◌+◌, ◌<◌, ◌≤◌, ◌++◌, ◌∷◌, [], List, ℕ, length, map, IfOk, IfSome, OnOk};
 ghost use Rattle.pg_strings.specs.Keys.{items_of};
 ghost use Rattle.std.specs.List.{All};
-ghost use Rattle.pg_strings.specs.Whole.{HasChainsOf, IsFlaggedAt, IsPrefix, IsWholeOf, KeepsFlags};
-ghost use Rattle.pg_strings.specs.Whole.{flag_by, home_by, number_behind};
+ghost use Rattle.pg_strings.specs.Whole.{HasChainsOf, IsFlaggedAt, IsPrefixHash, IsWholeOf, KeepsFlags};
+ghost use Rattle.pg_strings.specs.Whole.{flag_by, home_by, hash_behind};
 
 use crate::chains::Chains;
 use crate::compare::{STRIDE, fits};
-use crate::key::MIX;
+use crate::key::{MIX, key_of, no_flags};
 use pg_pattern::Bounds;
 use std::alloc::{AllocError, Allocator, Global};
 
 /// A chain of more strings than these is long.
 const LONG_CHAIN: u32 = 32;
 
-/// How many flags there are for beginnings of strings.
-const FLAGS: usize = 131_072;
-
-/// A number of the bytes of a text, behind others that have this one.
-fn number_behind(before: u64, text: &[u8]) -> u64
-    ensures { result ≡ number_behind before text.now }
+/// A hash of the bytes of a text, behind others that have this one.
+fn hash_behind(before: u64, text: &[u8]) -> u64
+    ensures { result ≡ hash_behind before text.now }
 {
-    let mut number = before;
+    let mut hash = before;
     for byte in text {
-        number = number.wrapping_mul(MIX).wrapping_add(*byte as u64);
+        hash = hash.wrapping_mul(MIX).wrapping_add(*byte as u64);
     }
-    number
+    hash
 }
 
-/// A number of all bytes of a text.
-pub(crate) fn number_of(text: &[u8]) -> u64
-    ensures { result ≡ number_behind 0 text.now }
+/// A hash of all bytes of a text.
+pub(crate) fn hash_of(text: &[u8]) -> u64
+    ensures { result ≡ hash_behind 0 text.now }
 {
-    number_behind(0, text)
+    hash_behind(0, text)
 }
 
-/// The chain of the strings that have a number.
-pub(crate) fn chain_of(number: u64) -> usize
+/// The chain of the strings that have a hash.
+pub(crate) fn chain_of(hash: u64) -> usize
     ensures few { result < 8192 }
-    ensures value { result ≡ home_by number }
+    ensures value { result ≡ home_by hash }
 {
-    (number.wrapping_mul(MIX) / 0x0008_0000_0000_0000) as usize
+    (hash.wrapping_mul(MIX) / 0x0008_0000_0000_0000) as usize
 }
 
-/// The flag of the beginnings of strings that have a number.
-pub(crate) fn flag_of(number: u64) -> usize
+/// The flag of the beginnings of strings that have a hash.
+pub(crate) fn flag_of(hash: u64) -> usize
     ensures few { result < 131072 }
-    ensures value { result ≡ flag_by number }
+    ensures value { result ≡ flag_by hash }
 {
-    (number.wrapping_mul(MIX) / 0x8000_0000_0000) as usize
+    key_of(MIX, hash)
 }
 
-/// The number of so many bytes from a place on. That of more bytes follows from it.
+/// The hash of so many bytes from a place on. That of more bytes follows from it.
 #[derive(Clone, Copy)]
-pub(crate) struct Prefix {
+pub(crate) struct PrefixHash {
     pub len: usize,
-    pub number: u64,
+    pub hash: u64,
 }
 
-impl Prefix {
+impl PrefixHash {
     /// That of no byte.
-    pub fn empty() -> Prefix
-        ensures { (bytes : List ℕ) (place : ℕ) → place ≤ length bytes → IsPrefix bytes place result }
+    pub fn empty() -> PrefixHash
+        ensures { (bytes : List ℕ) (place : ℕ) → place ≤ length bytes → IsPrefixHash bytes place result }
     {
-        Prefix { len: 0, number: 0 }
+        PrefixHash { len: 0, hash: 0 }
     }
 
     /// What it costs to look for a string of this length, if one may stand there and end where a match may.
@@ -82,15 +79,15 @@ impl Prefix {
     /// Goes on to so many bytes from the place on. Only where these are fewer than before all are read again.
     #[inline(always)]
     pub fn reach(&mut self, len: usize, bytes: &[u8], place: usize)
-        requires fits { place + len ≤ length bytes.now }
-        requires prefix { IsPrefix bytes.now place self.old }
+        requires there { place + len ≤ length bytes.now }
+        requires prefix { IsPrefixHash bytes.now place self.old }
         ensures len { self.new.len ≡ len }
-        ensures prefix { IsPrefix bytes.now place self.new }
+        ensures prefix { IsPrefixHash bytes.now place self.new }
     {
         if len < self.len {
-            self.number = number_of(&bytes[place..place + len]);
+            self.hash = hash_of(&bytes[place..place + len]);
         } else {
-            self.number = number_behind(self.number, &bytes[place + self.len..place + len]);
+            self.hash = hash_behind(self.hash, &bytes[place + self.len..place + len]);
         }
         self.len = len;
     }
@@ -106,7 +103,7 @@ pub(crate) struct WholeStrings<A: Allocator = Global> {
     pub chains: Chains<A>,
     /// For each chain by first bytes how many strings it has.
     pub counts: Vec<u32, A>,
-    /// For each number of a string's beginning that has one of the lengths, and isn't all of it, a flag that is set.
+    /// For each hash of a string's beginning that has one of the lengths, and isn't all of it, a flag that is set.
     /// Where bytes have none no string is longer.
     pub flags: Vec<bool, A>,
 }
@@ -123,12 +120,12 @@ fn flag_beginnings<A: Allocator>(flags: &mut Vec<bool, A>, lengths: &[usize], st
     ensures own { IsFlaggedAt lengths.now flags.new.items string.now }
     ensures kept { KeepsFlags flags.old.items flags.new.items }
 {
-    let mut prefix = Prefix::empty();
+    let mut prefix = PrefixHash::empty();
     for at in 0..lengths.len() {
         let len = lengths[at];
         if len < string.len() {
             prefix.reach(len, string, 0);
-            flags[flag_of(prefix.number)] = true;
+            flags[flag_of(prefix.hash)] = true;
         }
     }
 }
@@ -142,7 +139,7 @@ fn flags_of<A: Allocator + Copy>(
     ensures all { IfOk result (λ flags. length flags.items ≡ 131072) }
     ensures flagged { IfOk result (λ flags. All (IsFlaggedAt lengths.now flags.items) (map items_of strings.now)) }
 {
-    let mut flags = vec![in alloc; false; FLAGS]?;
+    let mut flags = no_flags(alloc)?;
     for place in 0..strings.len() {
         flag_beginnings(&mut flags, lengths, &strings[place]);
     }
@@ -160,7 +157,7 @@ impl<A: Allocator> WholeStrings<A> {
         if !self.lengths.contains(&len) {
             self.lengths.push(len)?;
         }
-        self.chains.push(chain_of(number_of(string)))?;
+        self.chains.push(chain_of(hash_of(string)))?;
         Ok(())
     }
 

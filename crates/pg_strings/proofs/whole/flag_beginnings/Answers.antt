@@ -1,7 +1,7 @@
 use Rattle.std.proofs.Common.{◌≡◌, ◌<◌, length, take, true, arith, subst}
 use Rattle.std.specs.Prelude.{slice_index_or}
 use Rattle.std.proofs.lemmas.List.{get_or_default}
-use Rattle.pg_strings.specs.Whole.{flag_by, number_behind}
+use Rattle.pg_strings.specs.Whole.{flag_by, hash_behind}
 use Rattle.pg_strings.proofs.whole.flag_beginnings.Goals as goal
 
 pub loop-at-init : goal.loop-at-init
@@ -18,6 +18,6 @@ returns-clause-own g c = λ k d less.
     let string = c.args.string.now in
     let last = c.loop-at.auto.at-end in
     subst (λ len. len < length string
-    → slice_index_or c.loop-at.flags.items (flag_by (number_behind 0 (take len string))) true ≡ true)
+    → slice_index_or c.loop-at.flags.items (flag_by (hash_behind 0 (take len string))) true ≡ true)
     (get_or_default lengths k 0 d less)
     (c.loop-at.invariant.own k (omega (arith, less, last, c.loop-at-test.false)))

@@ -19,7 +19,7 @@ loop-link-init g c =
     record {
       within = omega (arith, walk.0, length-map vecs items_of);
       walked = subst (λ h. IsWalked P whole_home (map items_of vecs) c.index-link.result.now h)
-          (c.chain_of.ensures.value ∙ ap home_by c.requires.number) walk.1;
+          (c.chain_of.ensures.value ∙ ap home_by c.requires.hash) walk.1;
     }
 
 pub loop-link-smaller : goal.loop-link-smaller

@@ -6,8 +6,7 @@ use Rattle.pg_strings.specs.Keys.{items_of, key, home}
 use Rattle.pg_strings.specs.Sets.{StandsAs}
 use Rattle.pg_strings.proofs.WalkLemmas.{IsWalked, walk_first, walk_next, walk_ends, walk_weaker, link_falls}
 use Rattle.pg_strings.proofs.PlaceLemmas.{string_at}
-use Rattle.pg_strings.proofs.LongestLemmas.{short_kept}
-use Rattle.pg_strings.proofs.ShortLemmas.{none_stands}
+use Rattle.pg_strings.proofs.LongestLemmas.{longest_told, short_kept, some_bytes}
 use Rattle.pg_strings.proofs.set.StringSet.longest_at.Goals as goal
 
 pub loop-link-init : goal.loop-link-init
@@ -67,43 +66,23 @@ loop-link-preserved g c =
           (omega (arith, less, len)) string longer.low longer.stands c.loop-link.invariant.short;
     }
 
-pub returns-then-longest-gt0 : goal.returns-then-longest-gt0
-returns-then-longest-gt0 g c =
+pub returns : goal.returns
+returns g c =
     let set = c.args.self.now in
     let bytes = c.args.bytes.now in
     let bounds = c.args.bounds in
+    let longest = c.loop-link.longest in
     let strings = map items_of set.strings.items in
     let h = c.last_key_at-key.result / 16 in
     let at : h ≡ key set.factor (drop c.args.place bytes) / 16 = ap (λ n. n / 16) c.last_key_at-key.ensures.value in
-    let P : List ℕ → Type 0 = λ s. StandsAs bounds bytes c.args.place s → length s ≤ c.loop-link.longest in
-    let test = c.loop-link-test.false in
-    let end : c.loop-link.link ≡ 0 = omega (arith, test) in
-    let walked = subst (λ link. IsWalked P (home set.factor) strings link h) end c.loop-link.invariant.walked in (
-      c.loop-link.invariant.short.stands c.if-longest-gt0.true,
-      λ k d less stands. elim (cases_lt (length (get_or strings k d)) 3) [
-        | inl before ↦ c.loop-link.invariant.short.longest k d less stands (omega (arith, before))
-        | inr behind ↦
-            walk_ends P set.factor set.width strings bytes c.args.place h set.weighs set.long at walked k
-            (get_or strings k d) less (get_or_default strings k (get_or strings k d) d less) behind stands.0 stands
-      ],
-    )
-
-pub returns-else-longest-gt0 : goal.returns-else-longest-gt0
-returns-else-longest-gt0 g c =
-    let set = c.args.self.now in
-    let bytes = c.args.bytes.now in
-    let bounds = c.args.bounds in
-    let strings = map items_of set.strings.items in
-    let h = c.last_key_at-key.result / 16 in
-    let at : h ≡ key set.factor (drop c.args.place bytes) / 16 = ap (λ n. n / 16) c.last_key_at-key.ensures.value in
-    let P : List ℕ → Type 0 = λ s. StandsAs bounds bytes c.args.place s → length s ≤ c.loop-link.longest in
+    let P : List ℕ → Type 0 = λ s. StandsAs bounds bytes c.args.place s → length s ≤ longest in
     let test = c.loop-link-test.false in
     let end : c.loop-link.link ≡ 0 = omega (arith, test) in
     let walked = subst (λ link. IsWalked P (home set.factor) strings link h) end c.loop-link.invariant.walked in
-    let test' = c.if-longest-gt0.false in
-    let none : c.loop-link.longest ≡ 0 = omega (arith, test') in
-    none_stands set.width strings bounds bytes c.args.place c.loop-link.longest set.long c.loop-link.invariant.short
-    none (λ k d less stands long.
-    let short = walk_ends P set.factor set.width strings bytes c.args.place h set.weighs set.long at walked k
-    (get_or strings k d) less (get_or_default strings k (get_or strings k d) d less) long stands.0 stands in
-    absurd (omega (arith, short, none, long)))
+    longest_told strings bounds bytes c.args.place longest (some_bytes set.width strings set.long)
+    c.loop-link.invariant.short.stands (λ k d less stands. elim (cases_lt (length (get_or strings k d)) 3) [
+      | inl before ↦ c.loop-link.invariant.short.longest k d less stands (omega (arith, before))
+      | inr behind ↦
+          walk_ends P set.factor set.width strings bytes c.args.place h set.weighs set.long at walked k
+          (get_or strings k d) less (get_or_default strings k (get_or strings k d) d less) behind stands.0 stands
+    ]) c.unless_zero.result c.unless_zero.ensures

@@ -1,12 +1,12 @@
 use Rattle.std.proofs.Common.{map}
 use Rattle.pg_strings.specs.Keys.{items_of}
-use Rattle.pg_strings.specs.Whole.{IsPrefix}
+use Rattle.pg_strings.specs.Whole.{IsPrefixHash}
 use Rattle.pg_strings.proofs.WholeLemmas.{IsLongestOf}
 use Rattle.pg_strings.proofs.set.StringSet.longest_whole.Given as goal
 
 abbrev pub invariant-loop-at : goal.invariant-loop-at
 invariant-loop-at g l = record {
-  prefix : IsPrefix l.bytes l.place l.prefix;
+  prefix : IsPrefixHash l.bytes l.place l.prefix;
   longest : IsLongestOf (map items_of l.self.strings.items) l.bounds l.bytes l.place l.whole.lengths.items l.at
       l.longest;
 }

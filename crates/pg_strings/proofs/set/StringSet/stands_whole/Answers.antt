@@ -10,7 +10,7 @@ returns-clause-stands g c =
     let bytes = c.args.bytes.now in
     let place = c.args.place in
     let len = c.args.len in
-    let fits = c.fits.ensures.exact.0 (let yes : c.fits.result ≡ true = cc in yes) in
+    let fits = c.fits.ensures.0 (let yes : c.fits.result ≡ true = cc in yes) in
     let same : place + len - place ≡ len = omega arith in
     let text = take (place + len - place) (drop place bytes) in
     let size : length text ≡ len =
@@ -22,7 +22,7 @@ pub returns-then-not-fits-clause-stands : goal.returns-then-not-fits-clause-stan
 returns-then-not-fits-clause-stands g c =
     let no : c.fits.result ≡ false = cc in (
       λ yes. absurd (false≢true yes),
-      λ one. absurd (false≢true (sym no ∙ c.fits.ensures.exact.1
+      λ one. absurd (false≢true (sym no ∙ c.fits.ensures.1
           (so_fits (map items_of c.args.self.now.strings.items) c.args.bounds c.args.bytes.now c.args.place c.args.len
           one))),
     )

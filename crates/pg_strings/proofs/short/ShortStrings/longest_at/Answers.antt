@@ -13,7 +13,7 @@ returns-then-index g c = λ strings tables.
     let bytes = c.args.bytes.now in
     let place = c.args.place in
     let table = c.args.self.now.pairs.items in
-    let fits = c.fits.ensures.exact.0 c.if-fits.true in
+    let fits = c.fits.ensures.0 c.if-fits.true in
     let low : slice_index bytes place < 256 = omega (arith, c.type_inv.bytes place) in
     let low' : slice_index bytes (place + 1) < 256 = omega (arith, c.type_inv.bytes (place + 1)) in
     let told = ap (λ n. slice_index_or table n false) c.pair_of.ensures.value
@@ -27,7 +27,7 @@ returns-then-index-2 g c = λ strings tables.
     let bytes = c.args.bytes.now in
     let place = c.args.place in
     let table = c.args.self.now.pairs.items in
-    let fits = c.fits-2.ensures.exact.0 c.if-fits-2.true in
+    let fits = c.fits-2.ensures.0 c.if-fits-2.true in
     let low : slice_index bytes place < 256 = omega (arith, c.type_inv.bytes place) in
     let low' : slice_index bytes (place + 1) < 256 = omega (arith, c.type_inv.bytes (place + 1)) in
     let one = read_of c.args.self.now.singles.items (slice_index bytes place) _ c.index-then-fits-2.result.now _
@@ -40,7 +40,7 @@ returns-then-index-2 g c = λ strings tables.
           read_of table w.pair_of.result _ w.index.result.now _ (omega
           (arith, w.pair_of.ensures.few, c.requires.pairs)) told w.index.ensures w.if-index.false
       | else-fits-via-else-fits w ↦
-          absurd (false≢true (sym w.if-fits.false ∙ c.fits.ensures.exact.1 (within, ends)))
+          absurd (false≢true (sym w.if-fits.false ∙ c.fits.ensures.1 (within, ends)))
     ] in
     longest_single strings c.args.bounds bytes place fits.0 fits.1 none one
 
@@ -58,7 +58,7 @@ returns g c = λ strings tables.
           read_of table w.pair_of.result _ w.index.result.now _ (omega
           (arith, w.pair_of.ensures.few, c.requires.pairs)) told w.index.ensures w.if-index.false
       | else-fits-via-else-fits w ↦
-          absurd (false≢true (sym w.if-fits.false ∙ c.fits.ensures.exact.1 (within, ends)))
+          absurd (false≢true (sym w.if-fits.false ∙ c.fits.ensures.1 (within, ends)))
     ] in
     let none' : NoSingle strings c.args.bounds bytes place = λ within ends. elim c.else-fits-2.branch [
       | else-fits-2-via-then-fits-2+else-index-2 w ↦
@@ -66,6 +66,6 @@ returns g c = λ strings tables.
           (omega (arith, low, c.requires.singles)) (tables.single (slice_index bytes place) low)
           w.index-then-fits-2.ensures w.if-index-2.false
       | else-fits-2-via-else-fits-2 w ↦
-          absurd (false≢true (sym w.if-fits-2.false ∙ c.fits-2.ensures.exact.1 (within, ends)))
+          absurd (false≢true (sym w.if-fits-2.false ∙ c.fits-2.ensures.1 (within, ends)))
     ] in
     longest_clear strings c.args.bounds bytes place none none'

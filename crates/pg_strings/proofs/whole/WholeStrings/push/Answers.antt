@@ -24,7 +24,7 @@ returns g c = λ strings before.
           (sym w.self-is)
           (whole_more lengths w.push.new.self.items old.chains.first.items old.chains.next.items chains.first.items
           chains.next.items strings string c.chain_of.result before new
-          (c.chain_of.ensures.value ∙ ap home_by c.number_of.ensures) linked)
+          (c.chain_of.ensures.value ∙ ap home_by c.hash_of.ensures) linked)
       | else-not-contains w ↦
           let linked = c.in_ok-push-2.ensures (map whole_home strings) (subst
           (λ s. AreChains s.chains.first.items s.chains.next.items (map whole_home strings)) (sym w.self-is)
@@ -38,5 +38,5 @@ returns g c = λ strings before.
                 (sym c.contains.ensures.value ∙ w.if-not-contains.false),
             omega arith,
           )
-          (c.chain_of.ensures.value ∙ ap home_by c.number_of.ensures) linked)
+          (c.chain_of.ensures.value ∙ ap home_by c.hash_of.ensures) linked)
     ]
