@@ -4,3 +4,4 @@ pub mod GatherLemmas
 pub mod PartLemmas
 pub mod PatternLemmas
 pub mod ScanLemmas
+pub mod StringLemmas

@@ -1,10 +1,15 @@
 -- What a text is compiled to, and why one can't be.
-use Rattle.std.specs.Prelude.{◌<◌, ◌≤◌, List}
+use Rattle.std.specs.Prelude.{◌≡◌, ◌<◌, ◌≤◌, ℕ, List, length}
+use Rattle.std.specs.Borrow.{Bor}
+use Rattle.std.specs.List.{All}
+use Rattle.pg_grammar.specs.Slices.{bytes_of}
+use Rattle.pg_prefilter.specs.Prefilters.{IsPrefilterOf}
+use Rattle.pg_prefilter.specs.declared.prefilter.Prefilter.{Prefilter}
 use Rattle.pg_grammar.specs.ListResults.{IsFirstRefused}
 use Rattle.pg_match.specs.Automata.{Nfa}
 use Rattle.pg_match.specs.Machines.{IsMachineOf}
 use Rattle.pg_match.specs.Sizes.{list_size}
-use Rattle.pg_selection.specs.Search.{SearchText, Pattern, patterns, AreTreesOf, bounds_of}
+use Rattle.pg_selection.specs.Search.{SearchText, Pattern, Fixed, patterns, AreTreesOf, bounds_of}
 use Rattle.pg_lines.specs.declared.query.QueryFault.{QueryFault}
 use Rattle.pg_lines.specs.declared.query.QueryFault.TheVariants.{Syntax, TooLarge, OutOfMemory}
 
@@ -18,6 +23,17 @@ abbrev pub IsCompiled : Compiled → Type 0
 IsCompiled q =
     (trees : List Pattern) × AreTreesOf q.text trees × IsMachineOf q.machine trees (bounds_of q.text)
     × (list_size trees ≤ 65536)
+
+-- what searches for a text: its automaton, and what was found in its patterns
+abbrev pub AreSearchersOf : {A : Type 0} → SearchText → Nfa → Prefilter A → Type 0
+AreSearchersOf text machine prefilter =
+    IsCompiled (record { text = text; machine = machine }) × IsPrefilterOf text prefilter
+
+-- the patterns are fixed strings, and these are they, each short enough to be one (XCU grep, -F)
+pub record AreItsStrings (text : SearchText) (strings : List (Bor (List ℕ))) : Type 0 where
+  pub fixed : text.kind ≡ Fixed
+  pub each : bytes_of strings ≡ patterns text.lists
+  pub short : All (λ string. length string.now ≤ 4096) strings
 
 -- Why a text isn't compiled: some pattern spells no tree, and the fault is the first such one's; or all spell trees,
 -- which ask for more than 65,536 states; or a request for memory was refused.

@@ -1,5 +1,5 @@
 //! What is searched for.
-ghost use Rattle.std.specs.Prelude.{◌≡◌, ◌<◌, ℕ, List, false, length, map, All, IfOk, IfErr};
+ghost use Rattle.std.specs.Prelude.{◌≡◌, ◌<◌, ◌≤◌, ℕ, List, false, length, map, All, IfOk, IfErr, IsTrue};
 ghost use Rattle.std.specs.Arc.{arc_value};
 ghost use Rattle.pg_pattern.specs.Patterns.{IsProper};
 ghost use Rattle.pg_pattern.specs.Trees.{pattern};
@@ -8,15 +8,16 @@ ghost use Rattle.pg_selection.specs.Runs.{AllLines};
 ghost use Rattle.pg_literal.specs.Literals.{as_searched};
 ghost use Rattle.pg_prefilter.specs.Literals.{AreLiterals, TellHeads, data_of};
 ghost use Rattle.pg_prefilter.specs.Prefilters.{IsPrefilterOf};
-ghost use Rattle.pg_lines.specs.Queries.{IsCompiled, IsQueryFault};
+ghost use Rattle.pg_lines.specs.Queries.{AreItsStrings, AreSearchersOf, IsCompiled, IsQueryFault};
 ghost use Rattle.pg_lines.specs.declared.query.QueryFault.TheVariants.{OutOfMemory};
 
+use pg_grammar::Kind;
 use pg_literal::Literal;
 use pg_match::{BuildFault, Machine};
 use pg_pattern::Tree;
 use pg_prefilter::Prefilter;
 use pg_selection::{QueryText, Selector};
-use pg_syntax::{FaultKind, ListFault, parse_list};
+use pg_syntax::{FaultKind, LONGEST, ListFault, parse_list, texts_of};
 use std::alloc::{AllocError, Allocator, Global};
 use std::marker::Model;
 use std::sync::Arc;
@@ -34,6 +35,21 @@ pub enum QueryFault {
     /// A request for memory was refused.
     #[error("out of memory")]
     OutOfMemory,
+}
+
+impl From<BuildFault> for QueryFault {
+    ghost use Rattle.std.specs.Prelude.{◌≡◌, ◌⊎◌};
+    ghost use Rattle.pg_match.specs.declared.machine.BuildFault.TheVariants as B;
+    ghost use Rattle.pg_lines.specs.declared.query.QueryFault.TheVariants.{TooLarge, OutOfMemory};
+
+    ghost from_gives = { λ build fault. ((build ≡ B.TooManyStates) × (fault ≡ TooLarge)) ⊎ (fault ≡ OutOfMemory) };
+
+    fn from(fault: BuildFault) -> QueryFault {
+        match fault {
+            BuildFault::TooManyStates => QueryFault::TooLarge,
+            BuildFault::OutOfMemory => QueryFault::OutOfMemory,
+        }
+    }
 }
 
 impl From<AllocError> for QueryFault {
@@ -90,9 +106,7 @@ impl<A: Allocator> Query<A> {
         ensures compiled { IfOk result IsCompiled }
         ensures fault { IfErr result (IsQueryFault text) }
     {
-        let trees = trees_of(alloc, &text)?;
-        let machine = machine_of(alloc, &text, trees.as_slice())?;
-        let prefilter = Prefilter::of(alloc, &text, trees.as_slice())?;
+        let (machine, prefilter) = searchers_of(alloc, &text)?;
         let selector = selector_of(alloc, text)?;
         Ok(Query {
             selector,
@@ -198,6 +212,74 @@ fn selector_of<A: Allocator>(
     Ok(Arc::new(alloc, Selector::new(text))?)
 }
 
+/// What searches for a text: its automaton, and what was found in its patterns. Those of fixed strings are made without
+/// trees, which for a long list would take several times as long.
+fn searchers_of<A: Allocator + Copy>(
+    alloc: A,
+    text: &QueryText<A>,
+) -> Result<(Machine<A>, Prefilter<A>), QueryFault>
+    ensures made { IfOk result (λ made. AreSearchersOf text.now made.0 made.1) }
+    ensures fault { IfErr result (IsQueryFault text.now) }
+{
+    if text.kind == Kind::Fixed {
+        let strings = texts_of(alloc, text.lists.as_slice())?;
+        if are_short(&strings) {
+            return searchers_of_strings(alloc, text, &strings);
+        }
+    }
+    searchers_of_trees(alloc, text)
+}
+
+/// What searches for a text, by its patterns' trees.
+fn searchers_of_trees<A: Allocator + Copy>(
+    alloc: A,
+    text: &QueryText<A>,
+) -> Result<(Machine<A>, Prefilter<A>), QueryFault>
+    ensures made { IfOk result (λ made. AreSearchersOf text.now made.0 made.1) }
+    ensures fault { IfErr result (IsQueryFault text.now) }
+{
+    let trees = trees_of(alloc, text)?;
+    let machine = machine_of(alloc, text, trees.as_slice())?;
+    let prefilter = Prefilter::of(alloc, text, trees.as_slice())?;
+    Ok((machine, prefilter))
+}
+
+/// What searches for a text whose patterns are these fixed strings, each of at most 4,096 bytes.
+fn searchers_of_strings<A: Allocator + Copy>(
+    alloc: A,
+    text: &QueryText<A>,
+    strings: &[&[u8]],
+) -> Result<(Machine<A>, Prefilter<A>), QueryFault>
+    requires strings { AreItsStrings text.now strings.now }
+    ensures made { IfOk result (λ made. AreSearchersOf text.now made.0 made.1) }
+    ensures fault { IfErr result (IsQueryFault text.now) }
+{
+    let machine = machine_of_strings(alloc, text, strings)?;
+    let prefilter = Prefilter::of_strings(alloc, text, strings)?;
+    Ok((machine, prefilter))
+}
+
+/// Whether each text may be that of a pattern: it has at most 4,096 bytes.
+fn are_short(texts: &[&[u8]]) -> bool
+    ensures { IsTrue result → All (λ text. length text.now ≤ 4096) texts.now }
+{
+    texts.iter().all(|text| text.len() <= LONGEST)
+}
+
+/// The automaton of a text whose patterns are these fixed strings, each of at most 4,096 bytes.
+fn machine_of_strings<A: Allocator + Copy>(
+    alloc: A,
+    text: &QueryText<A>,
+    strings: &[&[u8]],
+) -> Result<Machine<A>, QueryFault>
+    requires strings { AreItsStrings text.now strings.now }
+    ensures machine { IfOk result (λ machine. IsCompiled (record { text = text.now; machine = machine })) }
+    ensures fault { IfErr result (IsQueryFault text.now) }
+{
+    let machine = Machine::of_strings(alloc, strings, text.fold, text.bounds())?;
+    Ok(machine)
+}
+
 /// The automaton of a text's patterns, whose trees these are.
 fn machine_of<A: Allocator + Copy>(
     alloc: A,
@@ -209,11 +291,8 @@ fn machine_of<A: Allocator + Copy>(
     ensures machine { IfOk result (λ machine. IsCompiled (record { text = text.now; machine = machine })) }
     ensures fault { IfErr result (IsQueryFault text.now) }
 {
-    match Machine::build(alloc, trees, text.bounds()) {
-        Ok(machine) => Ok(machine),
-        Err(BuildFault::TooManyStates) => Err(QueryFault::TooLarge),
-        Err(BuildFault::OutOfMemory) => Err(QueryFault::OutOfMemory),
-    }
+    let machine = Machine::build(alloc, trees, text.bounds())?;
+    Ok(machine)
 }
 
 /// The trees of a text's patterns.

@@ -14,32 +14,13 @@ use Rattle.pg_pattern.specs.declared.bounds.Bounds.{Bounds}
 use Rattle.pg_pattern.specs.Patterns.{IsProper, Pattern}
 use Rattle.pg_match.specs.Sizes.{size_of, list_size}
 use Rattle.pg_match.specs.Automata.{Runs, target_below, Nfa, IsRunnable}
-use Rattle.pg_match.specs.Tables.{Keeps, Pushed, Added}
+use Rattle.pg_match.specs.Tables.{Alternatives, HasFirst, Keeps, Pushed, Added}
 use Rattle.pg_match.specs.Machines.{Agrees, IsMachineOf}
 use Rattle.pg_match.specs.declared.state.State.{State}
 use Rattle.pg_match.specs.declared.state.State.TheVariants.{Accept, Split}
 use Rattle.pg_match.proofs.PathLemmas.{tree_sound, tree_complete, on_state, by_edge, not_over}
 use Rattle.pg_match.proofs.TableLemmas.{implements_kept, pushed_length, pushed_keeps, pushed_is, pushed_tidy}
 use Rattle.pg_match.proofs.TableLemmas.{pushed_plain}
-use Rattle.pg_match.specs.Tables.{Implements}
-use Rattle.pg_match.specs.Automata.{IsTidy}
-
--- from e the table matches one of the patterns 0 to k, and goes on at x
-abbrev pub Alternatives : List State → List Pattern → ℕ → ℕ → ℕ → Type 0
-Alternatives t patterns zero e x = (p : Pattern) × (slice_get patterns 0 ≡ Some p) × Implements t p e x
-Alternatives t patterns (suc k) e x =
-    (p : Pattern) × (slice_get patterns (suc k) ≡ Some p) × (f : ℕ) × (g : ℕ) × (slice_get t e ≡ Some (Split f g))
-    × Implements t p f x × Alternatives t patterns k g x
-
--- the table has the first c patterns, and starts at a state
-pub record HasFirst (t : List State) (patterns : List Pattern) (c start : ℕ) : Type 0 where
-  pub tidy : IsTidy t
-  pub start_in : start < length t
-  pub accept : slice_get t 0 ≡ Some Accept
-  pub only : (q : ℕ) → slice_get t q ≡ Some Accept → q ≡ 0
-  pub size : length t ≡ sum_by size_of (take c patterns) + (c - 1) + 1
-  pub none : c ≡ 0 → start ≡ 0
-  pub some : (k : ℕ) → c ≡ suc k → Alternatives t patterns k start 0
 
 -- a run from `Accept` is over
 pub ended : (t : List State) (l : List ℕ) (n i j : ℕ) → slice_get t 0 ≡ Some Accept → Runs t l n 0 i j → i ≡ j

@@ -1,3 +1,4 @@
+pub mod Examples
 pub mod PathLemmas
 pub mod TableLemmas
 pub mod GapLemmas
@@ -15,4 +16,5 @@ pub mod CursorLemmas
 pub mod AnchoredLemmas
 pub mod SingleStartLemmas
 pub mod BuildLemmas
+pub mod StringLemmas
 pub mod SizeLemmas

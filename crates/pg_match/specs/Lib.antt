@@ -4,6 +4,7 @@ pub mod Sizes
 pub mod Automata
 pub mod Machines
 pub mod Tables
+pub mod Strings
 pub mod Gaps
 pub mod StateSets
 pub mod Closures

@@ -1,6 +1,6 @@
 -- How a table of states grows by the states of a pattern.
 use Rattle.std.specs.Prelude.{◌≡◌, ◌≢◌, ℕ, zero, suc, ◌+◌, ◌-◌, ◌*◌, ◌<◌, [], ◌∷◌, ◌++◌}
-use Rattle.std.specs.Prelude.{List, length, Option, Some, None, slice_get}
+use Rattle.std.specs.Prelude.{List, length, take, sum_by, Option, Some, None, slice_get}
 use Rattle.pg_bytes.specs.ByteSets.{bytes}
 use Rattle.pg_bytes.specs.declared.byte_set.ByteSet.{ByteSet}
 use Rattle.pg_pattern.specs.Patterns.{Pattern, Empty, Set, Begin, End, Cat, Alt, Rep}
@@ -79,3 +79,20 @@ pub record AddedOptional (old new : List State) (p : Pattern) (count e x : ℕ) 
   pub tidy : IsTidy new
   pub inside : e < length new
   pub size : length new ≡ length old + count * size_of p + count
+
+-- from e the table matches one of the patterns 0 to k, and goes on at x
+abbrev pub Alternatives : List State → List Pattern → ℕ → ℕ → ℕ → Type 0
+Alternatives t patterns zero e x = (p : Pattern) × (slice_get patterns 0 ≡ Some p) × Implements t p e x
+Alternatives t patterns (suc k) e x =
+    (p : Pattern) × (slice_get patterns (suc k) ≡ Some p) × (f : ℕ) × (g : ℕ) × (slice_get t e ≡ Some (Split f g))
+    × Implements t p f x × Alternatives t patterns k g x
+
+-- the table has the first c patterns, and starts at a state
+pub record HasFirst (t : List State) (patterns : List Pattern) (c start : ℕ) : Type 0 where
+  pub tidy : IsTidy t
+  pub start_in : start < length t
+  pub accept : slice_get t 0 ≡ Some Accept
+  pub only : (q : ℕ) → slice_get t q ≡ Some Accept → q ≡ 0
+  pub size : length t ≡ sum_by size_of (take c patterns) + (c - 1) + 1
+  pub none : c ≡ 0 → start ≡ 0
+  pub some : (k : ℕ) → c ≡ suc k → Alternatives t patterns k start 0

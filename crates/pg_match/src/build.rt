@@ -1,10 +1,12 @@
 //! How the states of trees are made.
-ghost use Rattle.std.specs.Prelude.{◌≡◌, ◌+◌, ◌*◌, ◌<◌, ◌≤◌, All, IfOk, IfSome, IsTrue, length, map, false};
+ghost use Rattle.std.specs.Prelude.{◌≡◌, ◌↔◌, ◌+◌, ◌*◌, ◌<◌, ◌≤◌, All, IfOk, IfSome, IsTrue, List, length, map, false};
+ghost use Rattle.std.specs.Prelude.{Some, slice_get};
 ghost use Rattle.pg_pattern.specs.Patterns.{Pattern, IsProper, Alt, Rep};
 ghost use Rattle.pg_pattern.specs.Trees.{pattern};
+ghost use Rattle.pg_pattern.specs.Lengths.{HitsEndWithin};
 ghost use Rattle.pg_match.specs.Sizes.{size_of, list_size};
 ghost use Rattle.pg_match.specs.Automata.{IsTidy};
-ghost use Rattle.pg_match.specs.Tables.{Pushed, Added, AddedCopies, AddedOptional};
+ghost use Rattle.pg_match.specs.Tables.{Pushed, Added, AddedCopies, AddedOptional, HasFirst};
 ghost use Rattle.pg_match.specs.Gaps.{IsHole, IsFilled, Finished, IsGap, Narrowed};
 ghost use Rattle.pg_match.specs.Machines.{IsMachineOf};
 ghost use Rattle.pg_match.specs.Views.{nfa, IsBuilt};
@@ -51,12 +53,49 @@ pub(crate) fn assemble<A: Allocator + Copy>(
     let mut start = 0;
     for i in 0..trees.len() {
         let entry = add(&mut states, &trees[i], ACCEPT)?;
-        if i == 0 {
-            start = entry;
-        } else {
-            start = push(&mut states, State::Split(entry, start))?;
-        }
+        start = add_choice(&mut states, i, entry, start)?;
     }
+    let reach = hit_reach(trees, bounds);
+    finished(alloc, states, start, bounds, !trees.is_empty(), reach)
+}
+
+/// The state where the alternatives begin, of which one begins at `entry`, and those before it, so many, at `start`.
+pub(crate) fn add_choice<A: Allocator>(
+    states: &mut Vec<State, A>,
+    before: usize,
+    entry: u32,
+    start: u32,
+) -> Result<u32, AllocError>
+    requires { 0 < before → length states.old.items < 65536 }
+    ensures { (t : List State) (patterns : List Pattern) (p : Pattern) → HasFirst t patterns before start
+        → Added t states.old.items p entry 0 → slice_get patterns before ≡ Some p
+        → IfOk result (λ s. HasFirst states.new.items patterns (before + 1) s) }
+{
+    if before == 0 {
+        return Ok(entry);
+    }
+    let choice = push(states, State::Split(entry, start))?;
+    Ok(choice)
+}
+
+/// The automaton of a table that has all of some patterns, which begin at `start`, and within how many bytes of where a
+/// hit begins one ends, if that is known.
+pub(crate) fn finished<A: Allocator + Copy>(
+    alloc: A,
+    states: Vec<State, A>,
+    start: u32,
+    bounds: Bounds,
+    some: bool,
+    reach: Option<usize>,
+) -> Result<Automaton<A>, AllocError>
+    requires tidy { IsTidy states.items }
+    requires start { start < length states.items }
+    requires few { length states.items ≤ 65536 }
+    ensures { (patterns : List Pattern) → All IsProper patterns
+        → HasFirst states.items patterns (length patterns) start → (IsTrue some ↔ (0 < length patterns))
+        → IfSome reach (HitsEndWithin patterns bounds)
+        → IfOk result (λ m. IsBuilt m × IsMachineOf (nfa m) patterns bounds) }
+{
     let seeds = seeds(alloc, &states, start)?;
     let starts = starts_of(alloc, &states, &seeds)?;
     Ok(Automaton {
@@ -65,13 +104,16 @@ pub(crate) fn assemble<A: Allocator + Copy>(
         seeds,
         starts,
         bounds,
-        some: !trees.is_empty(),
-        reach: hit_reach(trees, bounds),
+        some,
+        reach,
     })
 }
 
 /// Adds a state.
-fn push<A: Allocator>(states: &mut Vec<State, A>, state: State) -> Result<u32, AllocError>
+pub(crate) fn push<A: Allocator>(
+    states: &mut Vec<State, A>,
+    state: State,
+) -> Result<u32, AllocError>
     requires { length states.old.items < 65536 }
     ensures { IfOk result (λ e. Pushed states.old.items states.new.items state e) }
 {

@@ -31,6 +31,7 @@ mod size;
 mod sparse_set;
 mod starts;
 mod state;
+mod strings;
 
 pub use dfa_line::KnownLine;
 pub use machine::{BuildFault, Machine, Scratch};

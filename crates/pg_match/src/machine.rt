@@ -8,7 +8,8 @@ ghost use Rattle.pg_pattern.specs.Hits.{HasHit, HasNoNext, IsNext};
 ghost use Rattle.pg_match.specs.Lines.{TellsLine};
 ghost use Rattle.pg_match.specs.Machines.{IsMachineOf, IsOfSome, Fits};
 ghost use Rattle.pg_match.specs.Dfas.{IsBlank};
-ghost use Rattle.pg_match.specs.Views.{dfa};
+ghost use Rattle.pg_match.specs.Strings.{string_patterns};
+ghost use Rattle.pg_match.specs.Views.{dfa, nfa, IsBuilt};
 ghost use Rattle.pg_pattern.specs.declared.bounds.Bounds.{Bounds};
 
 use crate::automaton::Automaton;
@@ -17,6 +18,7 @@ use crate::dfa_cache::Cache;
 use crate::dfa_line::KnownLine;
 use crate::search::StateSets;
 use crate::size::{MAX_STATES, list_size};
+use crate::strings::{assemble_strings, strings_size};
 use pg_pattern::{Bounds, Tree};
 use std::alloc::{AllocError, Allocator, Global};
 use std::marker::Model;
@@ -127,10 +129,35 @@ impl<A: Allocator> Machine<A> {
         if list_size(trees) > MAX_STATES {
             return Err(BuildFault::TooManyStates);
         }
-        match share(alloc, trees, bounds) {
-            Ok(machine) => Ok(machine),
-            Err(_) => Err(BuildFault::OutOfMemory),
+        let automaton = assemble(alloc, trees, bounds)?;
+        let machine = share(alloc, automaton)?;
+        Ok(machine)
+    }
+
+    /// The machine of some fixed strings, whose matches begin and end as the bounds say: that which [`Machine::build`]
+    /// gives for the trees that they spell, made without these. With `fold` both cases of a letter match.
+    ///
+    /// # Errors
+    ///
+    /// As for [`Machine::build`].
+    pub fn of_strings(
+        alloc: A,
+        strings: &[&[u8]],
+        fold: bool,
+        bounds: Bounds,
+    ) -> Result<Machine<A>, BuildFault>
+    where
+        A: Copy,
+        ensures built { IfOk result (λ machine. IsMachineOf machine (string_patterns fold strings.now) bounds) }
+        ensures large { IsErrOf result BuildFault.TooManyStates
+            ↔ (65536 < list_size (string_patterns fold strings.now)) }
+    {
+        if strings_size(strings) > MAX_STATES {
+            return Err(BuildFault::TooManyStates);
         }
+        let automaton = assemble_strings(alloc, strings, fold, bounds)?;
+        let machine = share(alloc, automaton)?;
+        Ok(machine)
     }
 
     /// Whether some span of the line is matched, as the machine's bounds allow. The scratch has to fit
@@ -222,17 +249,11 @@ impl<A: Allocator> Machine<A> {
     }
 }
 
-/// The machine of trees that are not too large.
-fn share<A: Allocator + Copy>(
-    alloc: A,
-    trees: &[Tree<A>],
-    bounds: Bounds,
-) -> Result<Machine<A>, AllocError>
-    requires proper { All IsProper (map pattern trees.now) }
-    requires small { list_size (map pattern trees.now) ≤ 65536 }
-    ensures { IfOk result (λ machine. IsMachineOf machine (map pattern trees.now) bounds) }
+/// The machine of an automaton.
+fn share<A: Allocator>(alloc: A, automaton: Automaton<A>) -> Result<Machine<A>, AllocError>
+    requires { IsBuilt automaton × IsOfSome (nfa automaton) }
+    ensures { IfOk result (λ machine. machine ≡ nfa automaton) }
 {
-    let automaton = assemble(alloc, trees, bounds)?;
     let automaton = Arc::new(alloc, automaton)?;
     Ok(Machine { automaton })
 }

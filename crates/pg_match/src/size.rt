@@ -48,7 +48,8 @@ pub(crate) fn size<A: Allocator>(tree: &Tree<A>) -> u64
     }
 }
 
-fn capped(size: u64) -> u64
+/// A size, or 65,537 where it is larger.
+pub(crate) fn capped(size: u64) -> u64
     ensures { result ≡ min size 65537 }
 {
     size.min(TOO_MANY)

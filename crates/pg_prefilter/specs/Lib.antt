@@ -1,4 +1,5 @@
 pub mod Literals
+pub mod Fixed
 pub mod Strings
 pub mod NextHits
 pub mod Candidates

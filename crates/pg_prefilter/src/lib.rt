@@ -7,6 +7,7 @@
 #![tactic(auto)]
 
 mod candidate;
+mod fixed;
 mod literal_needles;
 mod literal_set;
 mod may;

@@ -49,7 +49,7 @@ fn copies_of<A: Allocator + Copy>(
 }
 
 /// Whether some literal is empty.
-fn has_empty<A: Allocator>(literals: &[Literal<A>]) -> bool
+pub(crate) fn has_empty<A: Allocator>(literals: &[Literal<A>]) -> bool
     ensures { IsTrue result ⊎ All (λ literal. 1 ≤ length literal.text.items) literals.now }
 {
     literals.iter().any(|literal| literal.text.is_empty())

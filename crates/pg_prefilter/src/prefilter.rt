@@ -3,12 +3,14 @@ ghost use Rattle.std.specs.Prelude.{◌≡◌, ◌↔◌, ◌<◌, length, map, 
 ghost use Rattle.pg_pattern.specs.Trees.{pattern};
 ghost use Rattle.pg_selection.specs.Search.{SearchText, AreTreesOf, Fixed, patterns};
 ghost use Rattle.pg_blocks.specs.Lines.{IsLine};
+ghost use Rattle.pg_grammar.specs.Slices.{bytes_of};
 ghost use Rattle.pg_literal.specs.Literals.{as_searched};
 ghost use Rattle.pg_prefilter.specs.Literals.{AreLiterals, IsRowOf, TellHeads, data_of};
 ghost use Rattle.pg_prefilter.specs.Strings.{HitsIgnoreFront, IsReachOf, IsSetOf, IsSuffixOf};
 ghost use Rattle.pg_prefilter.specs.Prefilters.{IsPrefilterOf};
 
-use crate::literal_set::{LiteralSet, few_of};
+use crate::fixed::string_literals;
+use crate::literal_set::{LiteralSet, few_of, has_empty};
 use pg_grammar::Kind;
 use pg_literal::{LineSuffix, Literal, RowFinder, looks_behind, reach};
 use pg_pattern::{Bounds, Tree};
@@ -65,6 +67,31 @@ impl<A: Allocator> Prefilter<A> {
             ignores_front,
             reach,
             row,
+        })
+    }
+
+    /// What is found in a text whose patterns are these fixed strings, without their trees. A refused request for
+    /// memory is the only error.
+    pub fn of_strings(
+        alloc: A,
+        text: &QueryText<A>,
+        strings: &[&[u8]],
+    ) -> Result<Prefilter<A>, AllocError>
+    where
+        A: Copy,
+        requires fixed { text.now.kind ≡ Fixed }
+        requires strings { bytes_of strings.now ≡ patterns text.now.lists }
+        ensures { IfOk result (IsPrefilterOf text.now) }
+    {
+        let literals = literals_of_strings(alloc, text, strings)?;
+        let literal_set = LiteralSet::of(alloc, &literals, true, text.bounds())?;
+        Ok(Prefilter {
+            literals: few_of(alloc, literals),
+            literal_set,
+            suffix: None,
+            ignores_front: false,
+            reach: None,
+            row: None,
         })
     }
 
@@ -164,6 +191,29 @@ fn literals_of<A: Allocator + Copy>(
     } else {
         Ok(Vec::new(alloc))
     }
+}
+
+/// The fixed strings that a text's patterns are, as literals; none where one has the byte that ends a line, or is empty
+/// and not any match counts, for each line holds the empty string.
+fn literals_of_strings<A: Allocator + Copy>(
+    alloc: A,
+    text: &QueryText<A>,
+    strings: &[&[u8]],
+) -> Result<Vec<Literal<A>, A>, AllocError>
+    requires fixed { text.now.kind ≡ Fixed }
+    requires strings { bytes_of strings.now ≡ patterns text.now.lists }
+    ensures literals { IfOk result (λ literals. AreLiterals text.now (map data_of literals.items)) }
+    ensures heads { IfOk result (λ literals. TellHeads text.now literals.items) }
+    ensures fixed { IfOk result (λ literals. 0 < length literals.items
+        → map (λ literal. literal.text.items) literals.items
+        ≡ map (as_searched text.now.fold) (patterns text.now.lists)) }
+{
+    let literals = string_literals(alloc, strings, text.bounds(), text.fold)?;
+    let tell_nothing = text.bounds() != Bounds::Any && has_empty(&literals);
+    if tell_nothing || !are_within_lines(text.terminator(), &literals) {
+        return Ok(Vec::new(alloc));
+    }
+    Ok(literals)
 }
 
 /// The suffix that each match of a text's patterns is, whose trees these are, where there is one.

@@ -14,6 +14,6 @@ mod parser;
 mod source;
 mod token;
 
-pub use list::parse_list;
-pub use parser::{fixed, parse_bre, parse_ere};
+pub use list::{parse_list, texts_of};
+pub use parser::{LONGEST, fixed, parse_bre, parse_ere};
 pub use pg_grammar::{FaultKind, Kind, ListFault, PatternList, SyntaxFault};

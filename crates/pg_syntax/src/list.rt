@@ -36,8 +36,9 @@ pub fn parse_list<A: Allocator + Copy>(
     Ok(trees)
 }
 
-/// The texts of all patterns, in their order.
-fn texts_of<A: Allocator + Copy>(
+/// The texts of all patterns, in their order, split as [`parse_list`] splits them. A refused request for memory is the
+/// only error.
+pub fn texts_of<A: Allocator + Copy>(
     alloc: A,
     lists: &[PatternList<A>],
 ) -> Result<Vec<&[u8], A>, AllocError>

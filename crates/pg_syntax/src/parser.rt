@@ -18,7 +18,7 @@ use pg_pattern::{Tree, folded};
 use std::alloc::{AllocError, Allocator};
 
 /// How many bytes a text may have.
-const LONGEST: usize = 4096;
+pub const LONGEST: usize = 4096;
 
 /// The tree that a text spells as a basic expression (XBD 9.3), with both cases of each letter where
 /// `fold` asks for it (XCU grep, -i). A text spells at most one tree. At most 100 groups may be open

@@ -1,6 +1,6 @@
 use Rattle.std.proofs.Common.{map}
 use Rattle.pg_pattern.specs.Trees.{pattern}
-use Rattle.pg_match.proofs.BuildLemmas.{HasFirst}
+use Rattle.pg_match.specs.Tables.{HasFirst}
 use Rattle.pg_match.proofs.build.assemble.Given as goal
 
 abbrev pub invariant-loop-i : goal.invariant-loop-i

@@ -1,0 +1,18 @@
+-- The literals of fixed strings (XCU grep, -F).
+use Rattle.std.specs.Prelude.{◌≡◌, ◌<◌, ◌↔◌, ℕ, Bool, List, length, IsTrue}
+use Rattle.std.specs.List.{AllZip}
+use Rattle.pg_literal.specs.Literals.{as_searched}
+use Rattle.pg_literal.specs.declared.literal.Literal.{Literal}
+use Rattle.pg_pattern.specs.declared.bounds.Bounds.{Bounds}
+use Rattle.pg_pattern.specs.declared.bounds.Bounds.TheVariants.{Any}
+
+-- the literal is the string as it is searched for; it is enough where any match counts, and a head unless it is empty
+pub record IsOfString {A : Type 0} (fold : Bool) (bounds : Bounds) (string : List ℕ) (literal : Literal A) : Type 0
+  where
+    pub text : literal.text.items ≡ as_searched fold string
+    pub enough : IsTrue literal.is_enough ↔ (bounds ≡ Any)
+    pub head : IsTrue literal.is_head ↔ (0 < length string)
+
+-- each string has its literal, in their order
+abbrev pub AreOfStrings : {A : Type 0} → Bool → Bounds → List (List ℕ) → List (Literal A) → Type 0
+AreOfStrings fold bounds strings literals = AllZip (IsOfString fold bounds) strings literals

@@ -1,0 +1,56 @@
+//! The literals of a query whose patterns are fixed strings: the strings themselves.
+ghost use Rattle.std.specs.Prelude.{◌≡◌, IfOk};
+ghost use Rattle.pg_grammar.specs.Slices.{bytes_of};
+ghost use Rattle.pg_literal.specs.Literals.{as_searched};
+ghost use Rattle.pg_prefilter.specs.Fixed.{AreOfStrings, IsOfString};
+
+use pg_literal::Literal;
+use pg_pattern::Bounds;
+use std::alloc::{AllocError, Allocator};
+
+/// A copy of a string, in lower case where case is folded.
+fn copy_as_searched<A: Allocator>(
+    alloc: A,
+    string: &[u8],
+    fold: bool,
+) -> Result<Vec<u8, A>, AllocError>
+    ensures { IfOk result (λ copy. copy.items ≡ as_searched fold string.now) }
+{
+    if fold {
+        string.to_ascii_lowercase(alloc)
+    } else {
+        string.to_vec(alloc)
+    }
+}
+
+/// The literal of a string: it is enough where any match counts, and a head unless it is empty.
+fn literal_of<A: Allocator>(
+    alloc: A,
+    string: &[u8],
+    bounds: Bounds,
+    fold: bool,
+) -> Result<Literal<A>, AllocError>
+    ensures { IfOk result (IsOfString fold bounds string.now) }
+{
+    Ok(Literal {
+        text: copy_as_searched(alloc, string, fold)?,
+        is_enough: bounds == Bounds::Any,
+        is_head: !string.is_empty(),
+    })
+}
+
+/// The literals of strings, in their order.
+pub(crate) fn string_literals<A: Allocator + Copy>(
+    alloc: A,
+    strings: &[&[u8]],
+    bounds: Bounds,
+    fold: bool,
+) -> Result<Vec<Literal<A>, A>, AllocError>
+    ensures { IfOk result (λ literals. AreOfStrings fold bounds (bytes_of strings.now) literals.items) }
+{
+    let mut literals = Vec::new(alloc);
+    for string in strings {
+        literals.push(literal_of(alloc, string, bounds, fold)?)?;
+    }
+    Ok(literals)
+}
