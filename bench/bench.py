@@ -165,6 +165,9 @@ def cases(folder, megabytes):
             for options in LISTS:
                 words_of = ["-F", options, "-f", name]
                 yield Case(words_of, "prose", words_of)
+    # The same words, taken for expressions.
+    for options in LISTS:
+        yield Case([options, "-f", "known-2000"], "prose", [options, "-f", "known-2000"])
     for name, chosen in (("known", texts.known(words, 200)), ("frequent", words[:200]), ("rare", words[-200:])):
         write(folder / f"expressions-{name}", "".join(f"{word}[0-9]+x\n" for word in chosen).encode())
         yield Case(["-cE", "-f", f"expressions-{name}"], "prose", ["-c", "-f", f"expressions-{name}"])

@@ -9,4 +9,5 @@ pub mod ReachLemmas
 pub mod RestLemmas
 pub mod RowLemmas
 pub mod SetLemmas
+pub mod StringLemmas
 pub mod SuffixLemmas

@@ -1,6 +1,7 @@
 pub mod Literals
 pub mod Rows
 pub mod Known
+pub mod Strings
 pub mod Fronts
 pub mod Added
 pub mod Inner

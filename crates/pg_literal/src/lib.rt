@@ -18,6 +18,7 @@ mod row;
 mod row_finder;
 mod row_outcome;
 mod sets;
+mod strings;
 mod suffix;
 
 pub use cost::FEW_TEXTS;
@@ -26,4 +27,5 @@ pub use literal::Literal;
 pub use reaches::reach;
 pub use row_finder::RowFinder;
 pub use row_outcome::RowOutcome;
+pub use strings::are_strings;
 pub use suffix::LineSuffix;

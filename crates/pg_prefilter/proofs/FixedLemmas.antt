@@ -20,7 +20,7 @@ use Rattle.pg_prefilter.specs.Strings.{AreStrings}
 use Rattle.pg_selection.specs.Search.{SearchText, Pattern, Bounds, Fixed, AreTreesOf, bounds_of, patterns, terminator_of}
 use Rattle.pg_prefilter.specs.Fixed.{AreOfStrings, IsOfString}
 use Rattle.pg_prefilter.specs.Literals.{AreLiterals, IsEnough, TellHeads, data_of}
-use Rattle.pg_prefilter.proofs.StringLemmas.{hit_stands, stands_hit}
+use Rattle.pg_prefilter.proofs.StringLemmas.{fixed_are, hit_stands, stands_hit}
 
 -- one more pair
 zip_push : {X Y : Type 0} (R : X → Y → Type 0) (xs : List X) (ys : List Y) (x : X) (y : Y) → AllZip R xs ys → R x y
@@ -72,7 +72,7 @@ module _ {A : Type 0} (text : SearchText) (trees : List Pattern) (spelled : AreT
   strings = map (as_searched text.fold) (patterns text.lists)
 
   are_strings : AreStrings text strings
-  are_strings = record { fixed = fixed; each = refl }
+  are_strings = fixed_are text fixed
 
   -- the text, as it is searched for, stands there in the line
   abbrev Stands : List ℕ → ℕ → ℕ → List ℕ → Type 0

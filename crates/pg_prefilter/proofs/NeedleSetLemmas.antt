@@ -12,8 +12,8 @@ use Rattle.pg_literal.specs.Rows.{byte_as_searched}
 use Rattle.pg_literal.proofs.FoldLemmas.{length_searched}
 use Rattle.pg_strings.specs.Sets.{SomeStands}
 use Rattle.pg_blocks.specs.Lines.{lines, IsLine}
-use Rattle.pg_selection.specs.Search.{SearchText, Fixed, patterns, terminator_of}
-use Rattle.pg_prefilter.specs.Strings.{IsSetOf}
+use Rattle.pg_selection.specs.Search.{SearchText, terminator_of}
+use Rattle.pg_prefilter.specs.Strings.{AreStrings, IsSetOf}
 use Rattle.pg_strings.specs.Keys.{items_of}
 use Rattle.pg_strings.specs.Outcomes.{strings_of}
 use Rattle.pg_literal.specs.declared.literal.Literal.{Literal}
@@ -153,20 +153,18 @@ pub if_some : {X : Type 0} (P : Type 0) (o : Option X) → P → IfSome o (λ _.
 if_some P None p = tt
 if_some P (Some x) p = p
 
--- the set of fixed strings has the patterns
+-- the set of fixed strings has what the patterns spell
 pub set_is : {A : Type 0} (text : SearchText) (literals : List (Literal A)) (set : Option (LiteralSet A))
-    (is_fixed : Bool) → (IsTrue is_fixed → text.kind ≡ Fixed)
-    → (text.kind ≡ Fixed → 0 < length literals
-    → map (λ literal. literal.text.items) literals ≡ map (as_searched text.fold) (patterns text.lists))
+    (is_fixed : Bool)
+    → (IsTrue is_fixed → 0 < length literals → AreStrings text (map (λ literal. literal.text.items) literals))
     → IfSome set (λ set. strings_of set.strings ≡ map (λ literal. literal.text.items) literals)
     → IfSome set (λ set. set.is_fixed ≡ is_fixed) → IfSome set (λ set. AreLiterals text (set_literals set))
     → IfSome set (IsSetOf text)
-set_is text literals None is_fixed fixed exact same flag are = tt
-set_is {A} text literals (Some set) is_fixed fixed exact same flag are = (
+set_is text literals None is_fixed fixed same flag are = tt
+set_is {A} text literals (Some set) is_fixed fixed same flag are = (
   are,
-  λ yes'.
-      let kind = fixed (sym flag ∙ yes') in
+  λ told.
       let some = set.some in
       let size = ap length same ∙ length-map literals (λ (l : Literal A). l.text.items) in
-      record { fixed = kind; each = same ∙ exact kind (omega (arith, some, size)) },
+      subst (AreStrings text) (sym same) (fixed (sym flag ∙ told) (omega (arith, some, size))),
 )

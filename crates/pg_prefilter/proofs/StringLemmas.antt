@@ -2,7 +2,7 @@
 use Rattle.std.proofs.Common.{◌≡◌, ◌<◌, ◌≤◌, ◌+◌, ◌-◌, ℕ, zero, suc, Bool, true, false, inl, inr, Some}
 use Rattle.std.proofs.Common.{List, [], ◌∷◌, ◌++◌, length, map, get_or, refl, sym, ap, ◌∙◌, subst, arith}
 use Rattle.std.proofs.Common.{length-append}
-use Rattle.std.specs.List.{Any as AnyOf, AllZip}
+use Rattle.std.specs.List.{All, Any as AnyOf, AllZip}
 use Rattle.std.proofs.lemmas.Bool.{cases_lt}
 use Rattle.std.proofs.lemmas.Bool.Decides.{nat_tests}
 use Rattle.std.proofs.lemmas.List.{get_or-append-add, get_or_append_left}
@@ -16,6 +16,8 @@ use Rattle.pg_pattern.specs.Bounds.{is_word_byte, MayBegin, MayEnd}
 use Rattle.pg_pattern.specs.Hits.{Matched, Hit, IsNext}
 use Rattle.pg_literal.specs.Literals.{as_searched}
 use Rattle.pg_literal.specs.Rows.{byte_as_searched, IsAlone}
+use Rattle.pg_literal.specs.Strings.{IsOfString}
+use Rattle.pg_selection.proofs.TreeLemmas.{same_trees}
 use Rattle.pg_literal.proofs.RowLemmas.{occurs_nothing, occurs_more, occurs_first}
 use Rattle.pg_literal.proofs.FoldLemmas.{length_searched, searched_append, searched_nothing, searched_one}
 use Rattle.pg_literal.proofs.FoldLemmas.{searched_byte, byte_of_searched, folded_alone}
@@ -136,7 +138,7 @@ module _ (fold : Bool) (line : List ℕ) where
   fixed_matched (G.some small l) i j stands = literal_matched l i j stands
 
   -- the string of a pattern that matches
-  pub matched_stands : (texts : List (List ℕ)) (trees : List Pattern) → AreSpelled Fixed fold texts trees
+  pub matched_stands : (texts : List (List ℕ)) (trees : List Pattern) → AllZip (Spells Fixed fold) texts trees
       → (i j k : ℕ) (p : Pattern) → j ≤ length line → k < length trees → get_or trees k p ≡ p → Match p line i j
       → AnyOf (λ s. OccursAt searched s i × (i + length s ≡ j)) (map (as_searched fold) texts)
   matched_stands [] [] h i j k p within less is m = absurd (omega (arith, less))
@@ -144,13 +146,13 @@ module _ (fold : Bool) (line : List ℕ) where
   matched_stands (t ∷ texts) [] h i j k p within less is m = absurd h
   matched_stands (t ∷ texts) (q ∷ trees) h i j zero p within less is m =
       let own = subst (λ r. Match r line i j) (sym is) m in
-      (0, as_searched fold t, omega arith, refl, fixed_stands h.0.spells i j within own)
+      (0, as_searched fold t, omega arith, refl, fixed_stands h.0 i j within own)
   matched_stands (t ∷ texts) (q ∷ trees) h i j (suc k) p within less is m =
       let later = matched_stands texts trees h.1 i j k p within (omega (arith, less)) is m in
       (suc later.0, later.1, omega (arith, later.2), later.3, later.4)
 
   -- the pattern of a string that stands
-  pub stands_matched : (texts : List (List ℕ)) (trees : List Pattern) → AreSpelled Fixed fold texts trees
+  pub stands_matched : (texts : List (List ℕ)) (trees : List Pattern) → AllZip (Spells Fixed fold) texts trees
       → (i j k : ℕ) (s : List ℕ) → k < length (map (as_searched fold) texts)
       → get_or (map (as_searched fold) texts) k s ≡ s → OccursAt searched s i × (i + length s ≡ j)
       → Matched trees line i j
@@ -159,18 +161,53 @@ module _ (fold : Bool) (line : List ℕ) where
   stands_matched (t ∷ texts) [] h i j k s less is o = absurd h
   stands_matched (t ∷ texts) (q ∷ trees) h i j zero s less is o =
       let P : List ℕ → Type 0 = λ t. OccursAt searched t i × (i + length t ≡ j) in
-      (q, (0, omega arith, refl), fixed_matched h.0.spells i j (subst P (sym is) o))
+      (q, (0, omega arith, refl), fixed_matched h.0 i j (subst P (sym is) o))
   stands_matched (t ∷ texts) (q ∷ trees) h i j (suc k) s less is o =
       let later = stands_matched texts trees h.1 i j k s (omega (arith, less)) is o in
       (later.0, (suc later.1.0, omega (arith, later.1.1), later.1.2), later.2)
 
 -- texts that spell fixed strings, each with its pattern
-pub spelled_zip : (fold : Bool) (texts : List (List ℕ)) (trees : List Pattern) → AreSpelled Fixed fold texts trees
+spelled_zip : (fold : Bool) (texts : List (List ℕ)) (trees : List Pattern) → AreSpelled Fixed fold texts trees
     → AllZip (Spells Fixed fold) texts trees
 spelled_zip fold [] [] h = tt
 spelled_zip fold [] (t ∷ trees) h = absurd h
 spelled_zip fold (t ∷ texts) [] h = absurd h
 spelled_zip fold (t ∷ texts) (q ∷ trees) h = (h.0.spells, spelled_zip fold texts trees h.1)
+
+-- the patterns of a text of fixed strings spell these
+pub fixed_are : (text : SearchText) → text.kind ≡ Fixed
+    → AreStrings text (map (as_searched text.fold) (patterns text.lists))
+fixed_are text kind = record {
+  fixed = patterns text.lists;
+  spelled = λ trees spelled.
+      let P : Kind → Type 0 = λ k. AreSpelled k text.fold (patterns text.lists) trees in
+      spelled_zip text.fold (patterns text.lists) trees (subst P kind spelled);
+  each = refl;
+}
+
+-- fixed strings that spell some trees, one each
+zip_of_all : (fold : Bool) (trees : List Pattern) → All (IsOfString fold) trees
+    → (fixed : List (List ℕ)) × AllZip (Spells Fixed fold) fixed trees
+zip_of_all fold [] each = ([], tt)
+zip_of_all fold (t ∷ trees) each =
+    let own = each 0 t (omega arith) in
+    let rest = zip_of_all fold trees (λ k d less. each (suc k) d (omega (arith, less))) in
+    (own.0 ∷ rest.0, (own.1, rest.1))
+
+-- so are the patterns whose trees they spell
+pub strings_are : (text : SearchText) (trees : List Pattern) (texts : List (List ℕ)) → AreTreesOf text trees
+    → All (IsOfString text.fold) trees
+    → ((fixed : List (List ℕ)) → AllZip (Spells Fixed text.fold) fixed trees
+    → texts ≡ map (as_searched text.fold) fixed)
+    → AreStrings text texts
+strings_are text trees texts spelled each exact =
+    let all = zip_of_all text.fold trees each in
+    record {
+      fixed = all.0;
+      spelled = λ trees' spelled'.
+          subst (AllZip (Spells Fixed text.fold) all.0) (same_trees text trees trees' spelled spelled') all.1;
+      each = exact all.0 all.1;
+    }
 
 -- a letter's case makes no word of it
 word_byte : (b : ℕ) → is_word_byte (byte_as_searched true b) ≡ is_word_byte b
@@ -218,10 +255,8 @@ module _ (text : SearchText) (strings : List (List ℕ)) (are : AreStrings text 
   abbrev folded_line : List ℕ
   folded_line = as_searched text.fold line
 
-  own : AreSpelled Fixed text.fold (patterns text.lists) trees
-  own =
-      let P : Kind → Type 0 = λ k. AreSpelled k text.fold (patterns text.lists) trees in
-      subst P are.fixed spelled
+  own : AllZip (Spells Fixed text.fold) are.fixed trees
+  own = are.spelled trees spelled
 
   -- a hit is one of a string
   pub hit_stands : (i j : ℕ) → Hit trees bounds line i j → IsStringHit strings bounds folded_line i j
@@ -232,7 +267,7 @@ module _ (text : SearchText) (strings : List (List ℕ)) (are : AreStrings text 
         begins = begins_searched bounds text.fold line i hit.begins;
         ends = ends_searched bounds text.fold line j hit.ends;
         stands = subst P (sym are.each)
-            (matched_stands text.fold line (patterns text.lists) trees own i j m.1.0 m.0 hit.within m.1.1 m.1.2 m.2);
+            (matched_stands text.fold line are.fixed trees own i j m.1.0 m.0 hit.within m.1.1 m.1.2 m.2);
       }
 
   -- and the other way round
@@ -247,7 +282,7 @@ module _ (text : SearchText) (strings : List (List ℕ)) (are : AreStrings text 
         begins = begins_line bounds text.fold line i hit.begins;
         ends = ends_line bounds text.fold line j hit.ends;
         matched =
-            stands_matched text.fold line (patterns text.lists) trees own i j any.0 any.1 any.2 any.3 any.4;
+            stands_matched text.fold line are.fixed trees own i j any.0 any.1 any.2 any.3 any.4;
       }
 
   -- the next string is the next part

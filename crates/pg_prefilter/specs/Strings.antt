@@ -1,10 +1,11 @@
--- Queries whose patterns are all fixed strings, or whose matches have a text near where they begin or are a line's end,
--- and where these stand in a line (XCU grep, -F; GNU grep, -w and -o).
+-- Queries whose patterns are all fixed strings, or spell what such strings do, or whose matches have a text near where
+-- they begin or are a line's end, and where these stand in a line (XCU grep, -F; GNU grep, -w and -o).
 use Rattle.std.specs.Prelude.{◌≡◌, ℕ, ◌+◌, ◌<◌, ◌≤◌, List, length, map, slice_range}
 use Rattle.std.specs.Prelude.{Option, None, Some, IsTrue}
 use Rattle.std.specs.Borrow.{Bor}
-use Rattle.std.specs.List.{Any}
+use Rattle.std.specs.List.{Any, AllZip}
 use Rattle.memchr.specs.Find.{OccursAt}
+use Rattle.pg_grammar.specs.Grammar.{Spells}
 use Rattle.pg_pattern.specs.Bounds.{MayBegin, MayEnd}
 use Rattle.pg_pattern.specs.Hits.{Hit, IsNext}
 use Rattle.pg_pattern.specs.declared.bounds.Bounds.TheVariants as B
@@ -15,7 +16,7 @@ use Rattle.pg_literal.specs.Suffixes.{IsSuffix, suffix_row}
 use Rattle.pg_literal.specs.declared.suffix.LineSuffix.{LineSuffix}
 use Rattle.pg_strings.specs.Outcomes.{strings_of}
 use Rattle.pg_strings.specs.declared.set.StringSet.{StringSet}
-use Rattle.pg_selection.specs.Search.{SearchText, Pattern, Bounds, Fixed, AreTreesOf, bounds_of, patterns}
+use Rattle.pg_selection.specs.Search.{SearchText, Pattern, Bounds, Fixed, AreTreesOf, bounds_of}
 use Rattle.pg_prefilter.specs.Literals.{AreLiterals, set_literals}
 use Rattle.pg_prefilter.specs.declared.literal_set.LiteralSet.{LiteralSet}
 use Rattle.pg_prefilter.specs.declared.strings.BlockJudge.{BlockJudge}
@@ -25,10 +26,11 @@ use Rattle.pg_prefilter.specs.declared.strings.NearText.{NearText}
 use Rattle.pg_prefilter.specs.declared.strings.NextString.{NextString}
 use Rattle.pg_prefilter.specs.declared.strings.NextString.TheVariants.{Found, Nowhere, Behind, GaveUp}
 
--- the strings are the patterns, which are fixed strings; with -i they are in lower case
+-- the patterns spell what these fixed strings spell; with -i they are in lower case
 pub record AreStrings (text : SearchText) (strings : List (List ℕ)) : Type 0 where
-  pub fixed : text.kind ≡ Fixed
-  pub each : strings ≡ map (as_searched text.fold) (patterns text.lists)
+  pub fixed : List (List ℕ)
+  pub spelled : (trees : List Pattern) → AreTreesOf text trees → AllZip (Spells Fixed text.fold) fixed trees
+  pub each : strings ≡ map (as_searched text.fold) fixed
 
 -- a string stands in the line from one place up to another, and a match may begin and end there
 pub record IsStringHit (strings : List (List ℕ)) (bounds : Bounds) (line : List ℕ) (i j : ℕ) : Type 0 where
@@ -67,7 +69,7 @@ FindsPart patterns bounds line place (Behind next) =
     × ((i j : ℕ) → place ≤ i → Hit patterns bounds line i j → (next ≤ i) × (i < j))
 FindsPart patterns bounds line place GaveUp = Unit {0}
 
--- the literals of a set tell of the query's lines; where it says so they are its patterns
+-- the literals of a set tell of the query's lines; where it says so they are what its patterns spell
 abbrev pub IsSetOf : {A : Type 0} → SearchText → LiteralSet A → Type 0
 IsSetOf text set =
     AreLiterals text (set_literals set) × (IsTrue set.is_fixed → AreStrings text (strings_of set.strings))
@@ -100,7 +102,7 @@ first_judge None (Some suffix) near = Suffix suffix
 first_judge None None (Some near) = Near near
 first_judge None None None = Nothing
 
--- the strings are the query's patterns, the suffix is its hits, or the text stands near where they begin
+-- the strings are what the query's patterns spell, the suffix is its hits, or the text stands near where they begin
 abbrev pub IsJudgeOf : {A : Type 0} → SearchText → LineJudge A → Type 0
 IsJudgeOf text (Strings set) = AreStrings text (strings_of set.now)
 IsJudgeOf text (Suffix suffix) = IsSuffixOf text suffix.now

@@ -27,7 +27,7 @@ pub struct LiteralSet<A: Allocator = Global> {
     pub strings: StringSet<A>,
     /// Each of them is enough: a line that holds it has a hit.
     pub is_enough: bool,
-    /// They are all patterns of the query, which are fixed strings.
+    /// They are what all patterns of the query spell, each of which is bytes one behind the other.
     pub is_fixed: bool,
     /// The automaton of the query's patterns is small: its cache holds all sets of its states.
     has_small_automaton: bool,
@@ -77,9 +77,9 @@ fn are_all_enough<A: Allocator>(literals: &[Literal<A>]) -> bool
 }
 
 impl<A: Allocator + Copy> LiteralSet<A> {
-    /// The set of more than 8 literals, unless one is empty, with a flag that says whether they are all patterns and
-    /// fixed strings. Words of one or two bytes have none: they stand nearly everywhere within other words, where the
-    /// automaton is faster. A refused request for memory is the only error.
+    /// The set of more than 8 literals, unless one is empty, with a flag that says whether they are what all patterns
+    /// spell, each of which is bytes one behind the other. Words of one or two bytes have none: they stand nearly
+    /// everywhere within other words, where the automaton is faster. A refused request for memory is the only error.
     pub(crate) fn of(
         alloc: A,
         literals: &[Literal<A>],

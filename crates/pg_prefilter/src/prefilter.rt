@@ -1,5 +1,7 @@
 //! What was found in the patterns of a query.
-ghost use Rattle.std.specs.Prelude.{◌≡◌, ◌↔◌, ◌<◌, length, map, All, IfOk, IfSome, IsTrue};
+ghost use Rattle.std.specs.Prelude.{◌≡◌, ◌<◌, ℕ, List, length, map, All, IfOk, IfSome, IsTrue};
+ghost use Rattle.std.specs.List.{AllZip};
+ghost use Rattle.pg_grammar.specs.Grammar.{Spells};
 ghost use Rattle.pg_pattern.specs.Trees.{pattern};
 ghost use Rattle.pg_selection.specs.Search.{SearchText, AreTreesOf, Fixed, patterns};
 ghost use Rattle.pg_blocks.specs.Lines.{IsLine};
@@ -11,8 +13,7 @@ ghost use Rattle.pg_prefilter.specs.Prefilters.{IsPrefilterOf};
 
 use crate::fixed::string_literals;
 use crate::literal_set::{LiteralSet, few_of, has_empty};
-use pg_grammar::Kind;
-use pg_literal::{LineSuffix, Literal, RowFinder, looks_behind, reach};
+use pg_literal::{LineSuffix, Literal, RowFinder, are_strings, looks_behind, reach};
 use pg_pattern::{Bounds, Tree};
 use pg_selection::QueryText;
 use std::alloc::{AllocError, Allocator, Global};
@@ -55,7 +56,8 @@ impl<A: Allocator> Prefilter<A> {
         ensures { IfOk result (IsPrefilterOf text.now) }
     {
         let literals = literals_of(alloc, text, trees)?;
-        let literal_set = LiteralSet::of(alloc, &literals, is_fixed(text), text.bounds())?;
+        let is_fixed = are_strings(trees, text.fold);
+        let literal_set = LiteralSet::of(alloc, &literals, is_fixed, text.bounds())?;
         let suffix = suffix_of(alloc, text, trees)?;
         let ignores_front = ignores_front(text, trees);
         let reach = reach_of(text, trees);
@@ -162,16 +164,6 @@ impl<A: Allocator> Prefilter<A> {
     }
 }
 
-/// Whether the patterns are fixed strings.
-fn is_fixed<A: Allocator>(text: &QueryText<A>) -> bool
-    ensures { IsTrue result ↔ (text.now.kind ≡ Fixed) }
-{
-    match text.kind {
-        Kind::Fixed => true,
-        Kind::Basic | Kind::Extended => false,
-    }
-}
-
 /// Texts of which each line with a hit holds one, where such are found.
 fn literals_of<A: Allocator + Copy>(
     alloc: A,
@@ -181,9 +173,9 @@ fn literals_of<A: Allocator + Copy>(
     requires trees { AreTreesOf text.now (map pattern trees.now) }
     ensures literals { IfOk result (λ literals. AreLiterals text.now (map data_of literals.items)) }
     ensures heads { IfOk result (λ literals. TellHeads text.now literals.items) }
-    ensures fixed { text.now.kind ≡ Fixed → IfOk result (λ literals. 0 < length literals.items
-        → map (λ literal. literal.text.items) literals.items
-        ≡ map (as_searched text.now.fold) (patterns text.now.lists)) }
+    ensures exact { (fixed : List (List ℕ)) → AllZip (Spells Fixed text.now.fold) fixed (map pattern trees.now)
+        → IfOk result (λ literals. 0 < length literals.items
+        → map (λ literal. literal.text.items) literals.items ≡ map (as_searched text.now.fold) fixed) }
 {
     let literals = Literal::of(alloc, trees, text.bounds(), text.fold)?;
     if are_within_lines(text.terminator(), &literals) {

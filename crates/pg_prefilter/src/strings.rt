@@ -1,5 +1,5 @@
-//! What judges lines before the automaton: the strings of a query whose patterns are all fixed strings, a text that
-//! stands near where each match begins, or a suffix of lines that each match is.
+//! What judges lines before the automaton: the strings of a query whose patterns are all fixed strings, or spell what
+//! such strings do, a text that stands near where each match begins, or a suffix of lines that each match is.
 ghost use Rattle.std.specs.Prelude.{◌≡◌, ◌↔◌, ◌<◌, ◌≤◌, List, ℕ, length, map, IfSome, IsTrue};
 ghost use Rattle.pg_strings.specs.Outcomes.{strings_of};
 ghost use Rattle.pg_selection.specs.Search.{SearchText, Pattern, Bounds, AreTreesOf, bounds_of};
@@ -44,7 +44,7 @@ pub struct NearText<'s> {
 
 /// What judges a line before the automaton does.
 pub enum LineJudge<'s, A: Allocator> {
-    /// The strings of a query whose patterns are all fixed strings.
+    /// The strings that the patterns of a query spell, where each of these is bytes one behind the other.
     Strings(&'s StringSet<A>),
     /// The suffix of a line that each match is.
     Suffix(&'s LineSuffix<A>),

@@ -9,11 +9,9 @@ use Rattle.pg_literal.specs.declared.literal.Literal.{Literal}
 use Rattle.pg_prefilter.specs.Literals.{AreLiterals, data_of}
 use Rattle.pg_blocks.specs.Lines.{IsLine}
 use Rattle.pg_grammar.specs.Grammar.{Spells}
-use Rattle.pg_grammar.specs.ListResults.{AreSpelled}
 use Rattle.pg_literal.specs.Literals.{as_searched}
-use Rattle.pg_selection.specs.Search.{SearchText, Bounds, Kind, Fixed, patterns, terminator_of}
+use Rattle.pg_selection.specs.Search.{SearchText, Bounds, Fixed, terminator_of}
 use Rattle.pg_prefilter.proofs.LiteralLemmas.{literals_are, no_literals}
-use Rattle.pg_prefilter.proofs.StringLemmas.{spelled_zip}
 use Rattle.pg_prefilter.proofs.prefilter.literals_of.Goals as goal
 
 pub returns-then-are_within_lines-clause-literals : goal.returns-then-are_within_lines-clause-literals
@@ -33,21 +31,18 @@ returns-then-are_within_lines-clause-literals g c =
     c.terminator.ensures none) in
     literals_are text trees c.requires.trees literals alone says.0 says.1
 
-pub returns-then-are_within_lines-clause-fixed : goal.returns-then-are_within_lines-clause-fixed
-returns-then-are_within_lines-clause-fixed g c = λ is_fixed some.
+pub returns-then-are_within_lines-clause-exact : goal.returns-then-are_within_lines-clause-exact
+returns-then-are_within_lines-clause-exact g c = λ fixed zip some.
     let text = c.args.text.now in
     let trees = map (pattern {A = g.row.A.Denot}) c.args.trees.now in
     let literals = c.in_ok-literals.literals.items in
-    let texts = patterns text.lists in
     let fold : text.fold ≡ c.text.inside.fold = sym (ap (λ (t : SearchText). t.fold) c.text.view_is) in
-    let Spelled : Kind → Type 0 = λ k. AreSpelled k text.fold texts trees in
-    let zip = spelled_zip text.fold texts trees (subst Spelled is_fixed c.requires.trees) in
-    let Zip : Bool → Type 0 = λ f. AllZip (Spells Fixed f) texts trees in
-    let Same : Bool → Type 0 = λ f. map (λ literal. literal.text.items) literals ≡ map (as_searched f) texts in
-    subst Same (sym fold) (c.in_ok-literals.ensures.exact texts (subst Zip fold zip) some)
+    let Zip : Bool → Type 0 = λ f. AllZip (Spells Fixed f) fixed trees in
+    let Same : Bool → Type 0 = λ f. map (λ literal. literal.text.items) literals ≡ map (as_searched f) fixed in
+    subst Same (sym fold) (c.in_ok-literals.ensures.exact fixed (subst Zip fold zip) some)
 
-pub returns-in_err-literals-clause-fixed : goal.returns-in_err-literals-clause-fixed
-returns-in_err-literals-clause-fixed g c = λ _. IfOk-from_err c.from_residual.result _ c.from_residual.ensures.0
+pub returns-in_err-literals-clause-exact : goal.returns-in_err-literals-clause-exact
+returns-in_err-literals-clause-exact g c = λ _ _. IfOk-from_err c.from_residual.result _ c.from_residual.ensures.0
 
 pub returns-else-are_within_lines-clause-literals : goal.returns-else-are_within_lines-clause-literals
 returns-else-are_within_lines-clause-literals g c =
