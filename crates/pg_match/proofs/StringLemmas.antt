@@ -49,7 +49,8 @@ string_proper fold (b ∷ text) = proper_behind fold (Set (folded fold (one b)))
 
 pub strings_proper : (fold : Bool) (strings : List (Bor (List ℕ))) → All IsProper (string_patterns fold strings)
 strings_proper fold strings =
-    All-map IsProper (λ (s : Bor (List ℕ)). string_pattern fold s.now) strings (λ k d less. string_proper fold (get_or strings k d).now)
+    All-map IsProper (λ (s : Bor (List ℕ)). string_pattern fold s.now) strings
+    (λ k d less. string_proper fold (get_or strings k d).now)
 
 -- a match has as many bytes as the string
 long_behind : (fold : Bool) (p : Pattern) (most : ℕ) (text : List ℕ) → HasAtMost p most
@@ -88,7 +89,8 @@ strings_end fold bounds strings most each =
 abbrev Reads : Bool → List State → List ℕ → ℕ → ℕ → Type 0
 Reads fold t [] e x = e ≡ x
 Reads fold t (b ∷ text) e x =
-    (s : ByteSet) × (k : ℕ) × (bytes s ≡ folded fold (one b)) × (slice_get t e ≡ Some (Read s k)) × Reads fold t text k x
+    (s : ByteSet) × (k : ℕ) × (bytes s ≡ folded fold (one b)) × (slice_get t e ≡ Some (Read s k))
+    × Reads fold t text k x
 
 reads_kept : (fold : Bool) (old new : List State) → Keeps old new → (text : List ℕ) (e x : ℕ) → Reads fold old text e x
     → Reads fold new text e x

@@ -56,10 +56,11 @@ pub(crate) fn assemble<A: Allocator + Copy>(
         start = add_choice(&mut states, i, entry, start)?;
     }
     let reach = hit_reach(trees, bounds);
-    finished(alloc, states, start, bounds, !trees.is_empty(), reach)
+    automaton_of(alloc, states, start, bounds, !trees.is_empty(), reach)
 }
 
-/// The state where the alternatives begin, of which one begins at `entry`, and those before it, so many, at `start`.
+/// Adds an alternative, which begins at `entry`, behind those that there are, so many, which begin at `start`. Answers
+/// the state where all of them begin. All of the alternative's states are in the table, and lead on to the first one.
 pub(crate) fn add_choice<A: Allocator>(
     states: &mut Vec<State, A>,
     before: usize,
@@ -78,9 +79,9 @@ pub(crate) fn add_choice<A: Allocator>(
     Ok(choice)
 }
 
-/// The automaton of a table that has all of some patterns, which begin at `start`, and within how many bytes of where a
-/// hit begins one ends, if that is known.
-pub(crate) fn finished<A: Allocator + Copy>(
+/// The automaton of a table that has all of some patterns, which begin at `start`. `some` tells whether there is a
+/// pattern, and `reach` within how many bytes of where a hit begins one ends, if that is known.
+pub(crate) fn automaton_of<A: Allocator + Copy>(
     alloc: A,
     states: Vec<State, A>,
     start: u32,

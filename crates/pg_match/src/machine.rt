@@ -249,7 +249,7 @@ impl<A: Allocator> Machine<A> {
     }
 }
 
-/// The machine of an automaton.
+/// The machine of an automaton, which has at least one pattern.
 fn share<A: Allocator>(alloc: A, automaton: Automaton<A>) -> Result<Machine<A>, AllocError>
     requires { IsBuilt automaton × IsOfSome (nfa automaton) }
     ensures { IfOk result (λ machine. machine ≡ nfa automaton) }

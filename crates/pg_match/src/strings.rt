@@ -10,7 +10,7 @@ ghost use Rattle.pg_match.specs.Strings.{string_pattern, string_patterns};
 ghost use Rattle.pg_match.specs.Views.{nfa, IsBuilt};
 
 use crate::automaton::Automaton;
-use crate::build::{add_choice, finished, push};
+use crate::build::{add_choice, automaton_of, push};
 use crate::size::capped;
 use crate::state::{ACCEPT, State};
 use pg_bytes::ByteSet;
@@ -48,7 +48,7 @@ fn longest(strings: &[&[u8]]) -> usize
 }
 
 /// Adds the states of a string, those of its last bytes first, and answers the one where it begins. They lead on to
-/// `next`.
+/// `next`, which is in the table, and there is room for them: the caller has summed their sizes.
 fn add_string<A: Allocator>(
     states: &mut Vec<State, A>,
     string: &[u8],
@@ -75,7 +75,8 @@ fn add_string<A: Allocator>(
     Ok(entry)
 }
 
-/// The automaton of strings that are not too many or too long.
+/// The automaton of strings whose states, with one for each choice and one for the end, are at most 65,536, as
+/// `strings_size` tells.
 pub(crate) fn assemble_strings<A: Allocator + Copy>(
     alloc: A,
     strings: &[&[u8]],
@@ -93,7 +94,7 @@ pub(crate) fn assemble_strings<A: Allocator + Copy>(
         start = add_choice(&mut states, i, entry, start)?;
     }
     let reach = longest(strings);
-    finished(
+    automaton_of(
         alloc,
         states,
         start,

@@ -42,8 +42,8 @@ impl<A: Allocator> StringSet<A> {
         false
     }
 
-    /// Whether a string of this length stands at a place and ends where a match may. The hash is that of some bytes from
-    /// the place on; it goes on to so many where these are looked for.
+    /// Whether a string of this length stands at a place and ends where a match may. The hash is that of some bytes
+    /// from the place on; it goes on to so many where these are looked for.
     #[inline(always)]
     fn stands_whole(
         &self,

@@ -52,8 +52,8 @@ loop-i-preserved g c =
 pub push-requires : goal.push-requires
 push-requires g c = omega arith
 
-pub finished-requires-clause-few : goal.finished-requires-clause-few
-finished-requires-clause-few g c =
+pub automaton_of-requires-clause-few : goal.automaton_of-requires-clause-few
+automaton_of-requires-clause-few g c =
     let size = c.loop-i.invariant.size in
     let trees = c.args.trees.now in
     let same = length-map trees pattern in
@@ -69,7 +69,7 @@ returns g c =
     let patterns = map pattern trees in
     let same = length-map trees pattern in
     let end : c.loop-i.i ≡ length patterns = omega (arith, same) in
-    c.finished.ensures patterns c.requires.proper
+    c.automaton_of.ensures patterns c.requires.proper
     (subst (λ i. HasFirst c.loop-i.states.items patterns i c.loop-i.start) end c.loop-i.invariant) (
       λ h. let n = any_some (length trees) _ c.is_empty.ensures h in omega (arith, same, n),
       λ h. some_any (length trees) _ c.is_empty.ensures (omega (arith, same, h)),

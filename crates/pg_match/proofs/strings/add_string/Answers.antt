@@ -10,9 +10,9 @@ pub push-requires-in-loop-left : goal.push-requires-in-loop-left
 push-requires-in-loop-left g c =
     let string = c.args.string.now in
     let inv = c.loop-left.invariant in
-    let within = inv.within in
-    let size = size_string c.args.fold string (omega (arith, c.loop-left-test.true, within)) in
-    omega (arith, c.requires.fits, size, inv.added.size, length-drop c.loop-left.left string, c.loop-left-test.true, within)
+    let some = c.loop-left-test.true in
+    let size = size_string c.args.fold string (omega (arith, some, inv.within)) in
+    omega (arith, c.requires.fits, size, inv.added.size, length-drop c.loop-left.left string, some, inv.within)
 
 pub loop-left-preserved : goal.loop-left-preserved
 loop-left-preserved g c =

@@ -36,8 +36,8 @@ loop-i-preserved g c =
     c.in_ok-start.ensures c.loop-i.states.items (string_patterns c.args.fold c.args.strings.now) _ c.loop-i.invariant
     c.in_ok-entry.ensures (pattern_at c.args.fold c.args.strings.now c.loop-i.i none c.loop-i-test.true)
 
-pub finished-requires-clause-few : goal.finished-requires-clause-few
-finished-requires-clause-few g c =
+pub automaton_of-requires-clause-few : goal.automaton_of-requires-clause-few
+automaton_of-requires-clause-few g c =
     let strings = c.args.strings.now in
     let patterns = string_patterns c.args.fold strings in
     let size = c.loop-i.invariant.size in
@@ -54,7 +54,7 @@ returns g c =
     let same = length-map strings (λ (s : Bor (List ℕ)). string_pattern c.args.fold s.now) in
     let last = c.loop-i.auto.i-end in
     let end : c.loop-i.i ≡ length patterns = omega (arith, same, last, c.loop-i-test.false) in
-    c.finished.ensures patterns (strings_proper c.args.fold strings)
+    c.automaton_of.ensures patterns (strings_proper c.args.fold strings)
     (subst (λ i. HasFirst c.loop-i.states.items patterns i c.loop-i.start) end c.loop-i.invariant) (
       λ h. let n = any_some (length strings) _ c.is_empty.ensures h in omega (arith, same, n),
       λ h. some_any (length strings) _ c.is_empty.ensures (omega (arith, same, h)),

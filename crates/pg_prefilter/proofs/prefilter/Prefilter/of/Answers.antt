@@ -25,7 +25,7 @@ returns g c =
     → AreStrings text (map (λ l. l.text.items) c.deref.result.now) = λ told some.
     strings_are text (map pattern c.args.trees.now) _ c.requires.trees
     (All-map (IsOfString text.fold) pattern c.args.trees.now (subst (λ f. All (λ tree. IsOfString f (pattern tree))
-    c.args.trees.now) fold (c.are_strings-is_fixed.ensures told))) (λ strings zip.
+    c.args.trees.now) fold (c.are_strings-is_fixed.ensures.0 told))) (λ strings zip.
     subst (λ ls. map (λ l. l.text.items) ls ≡ map (as_searched text.fold) strings) (sym c.deref.ensures.value)
     (c.in_ok-literals.ensures.exact strings zip (omega (arith, some, ap length c.deref.ensures.value)))) in
     let seen = subst Are (sym c.deref.ensures.value) are in

@@ -4,7 +4,7 @@ use Rattle.pg_match.specs.Machines.{IsMachineOf}
 use Rattle.pg_match.specs.Starts.{AreStarts}
 use Rattle.pg_match.specs.declared.state.State.{State}
 use Rattle.pg_match.proofs.BuildLemmas.{built, reach_known, runnable}
-use Rattle.pg_match.proofs.build.finished.Goals as goal
+use Rattle.pg_match.proofs.build.automaton_of.Goals as goal
 
 pub returns : goal.returns
 returns g c = λ patterns proper first some near.
