@@ -211,10 +211,14 @@ def cases(folder, megabytes):
             # ripgrep takes a minute for this one.
             ripgrep = None if name == "folders" and "w" in options else ["-F", options, "-f", name]
             yield Case(["-F", options, "-f", name], text, ripgrep)
-    # What a list takes before the first byte is searched.
+    # What a list takes before the first byte is searched: of strings, of the same taken for expressions, and of names
+    # whose points are escaped.
     write(folder / "tiny", b"one line\n")
+    write(folder / "escaped", (folder / "names").read_bytes().replace(b".", b"\\."))
     for name in ("known-400", "known-2000", "ids"):
         yield Case(["-F", "-c", "-f", name], "tiny", ["-F", "-c", "-f", name])
+        yield Case(["-c", "-f", name], "tiny", ["-c", "-f", name])
+    yield Case(["-c", "-f", "escaped"], "tiny", ["-c", "-f", "escaped"])
     yield Case(["-cE", "-f", "expressions-known"], "tiny", ["-c", "-f", "expressions-known"])
     write(folder / "wide", texts.wide(words, 5))
     yield from split("-oE a.*b.*c.*d\n-oiE ab.*to\n-cE [xyz]{4}\n-oE [a-z]*ing", "wide")

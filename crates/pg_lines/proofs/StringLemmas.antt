@@ -1,23 +1,28 @@
--- The patterns of fixed strings, for `searchers_of_strings` and `machine_of_strings`.
+-- The patterns of fixed strings, and of expressions that spell what these do, for `searchers_of_strings` and
+-- `machine_of_strings`.
 use Rattle.std.proofs.Common.{◌≡◌, ℕ, suc, ◌<◌, ◌≤◌, Bool, List, [], ◌∷◌, ◌++◌, length, refl, sym, ap, ◌∙◌}
-use Rattle.std.proofs.Common.{subst, arith, append_assoc, length-append, All}
+use Rattle.std.proofs.Common.{subst, arith, append_assoc, All, ◌⊎◌, inl, inr, Result, Ok, Err}
 use Rattle.std.proofs.lemmas.List.{append-nil}
 use Rattle.std.specs.Borrow.{Bor}
+use Rattle.std.specs.List.{AllZip}
+use Rattle.std.specs.Result.{IfErr, IsErrAnd}
 use Rattle.pg_pattern.specs.Patterns.{Pattern, Cat, IsProper}
 use Rattle.pg_grammar.specs.Grammar as G
 use Rattle.pg_grammar.specs.Grammar.{Literal, Spells}
 use Rattle.pg_grammar.specs.ListResults.{AreSpelled}
+use Rattle.pg_grammar.specs.Results.{IsSpelled}
 use Rattle.pg_grammar.specs.Slices.{bytes_of}
-use Rattle.pg_match.specs.Strings.{string_pattern, string_patterns, with_bytes}
-use Rattle.pg_selection.specs.Search.{SearchText, Fixed, AreTreesOf, patterns}
-use Rattle.pg_lines.specs.Queries.{AreItsStrings, IsQueryFault}
-use Rattle.pg_lines.specs.declared.query.QueryFault.{QueryFault}
-use Rattle.pg_lines.specs.declared.query.QueryFault.TheVariants.{TooLarge, OutOfMemory}
+use Rattle.pg_syntax.proofs.PlainLemmas.{plain_spelled}
+use Rattle.pg_literal.proofs.StringLemmas.{literal_some}
 use Rattle.pg_match.specs.Sizes.{list_size}
+use Rattle.pg_match.specs.Strings.{string_pattern, string_patterns, with_bytes}
 use Rattle.pg_match.specs.declared.machine.BuildFault.{BuildFault}
 use Rattle.pg_match.specs.declared.machine.BuildFault.TheVariants.{TooManyStates}
-use Rattle.std.specs.Result.{IfErr, IsErrAnd}
-use Rattle.std.proofs.Common.{◌⊎◌, Result, Ok, Err, inl, inr}
+use Rattle.pg_selection.specs.Search.{SearchText, Kind, Fixed, AreTreesOf}
+use Rattle.pg_prefilter.specs.Fixed.{AreFixed}
+use Rattle.pg_lines.specs.Queries.{AreItsStrings, IsPlainText, IsQueryFault}
+use Rattle.pg_lines.specs.declared.query.QueryFault.{QueryFault}
+use Rattle.pg_lines.specs.declared.query.QueryFault.TheVariants.{TooLarge, OutOfMemory}
 
 module _ (fold : Bool) where
   -- one byte
@@ -48,11 +53,6 @@ module _ (fold : Bool) where
   pattern_behind [] b some = absurd (omega (arith, some))
   pattern_behind (c ∷ text) b some = one_behind (byte c) text b
 
-  -- a literal has a byte
-  literal_some : {text : List ℕ} {p : Pattern} → Literal fold text p → 0 < length text
-  literal_some (G.first b) = omega arith
-  literal_some (G.more {text = t} l b) = omega (arith, length-append t (b ∷ []))
-
   -- and spells no other pattern
   literal_pattern : {text : List ℕ} {p : Pattern} → Literal fold text p → p ≡ string_pattern fold text
   literal_pattern (G.first b) = refl
@@ -72,26 +72,51 @@ module _ (fold : Bool) where
   string_proper [] = tt
   string_proper (b ∷ text) = proper_behind (byte b) text tt
 
-  -- strings spell their patterns
-  strings_spell : (strings : List (Bor (List ℕ))) → All (λ string. length string.now ≤ 4096) strings
-      → AreSpelled Fixed fold (bytes_of strings) (string_patterns fold strings)
-  strings_spell [] short = tt
-  strings_spell (s ∷ strings) short = (
-    record {
-      spells = spells_pattern s.now (short 0 s (omega arith));
-      only = λ q spells. spells_only spells;
-      proper = string_proper s.now;
-    },
-    strings_spell strings (λ k d less. short (suc k) d (omega (arith, less))),
+  -- a string spells its pattern as a fixed string, and so as an expression without special bytes
+  string_spelled : (kind : Kind) (text : List ℕ) → IsPlainText kind text
+      → IsSpelled kind fold text (string_pattern fold text)
+  string_spelled kind text string = plain_spelled kind fold text (string_pattern fold text) string.1 (record {
+    spells = spells_pattern text string.0;
+    only = λ q spells. spells_only spells;
+    proper = string_proper text;
+  })
+
+  strings_spell : (kind : Kind) (strings : List (Bor (List ℕ))) → All (λ string. IsPlainText kind string.now) strings
+      → AreSpelled kind fold (bytes_of strings) (string_patterns fold strings)
+  strings_spell kind [] plain = tt
+  strings_spell kind (s ∷ strings) plain = (
+    string_spelled kind s.now (plain 0 s (omega arith)),
+    strings_spell kind strings
+        (λ k d less. plain (suc k) d (omega (arith, less))),
   )
+
+  -- and nothing else, so that trees of the strings are what they spell as fixed strings
+  fixed_zip : (kind : Kind) (strings : List (Bor (List ℕ))) (trees : List Pattern)
+      → All (λ string. IsPlainText kind string.now) strings → AreSpelled kind fold (bytes_of strings) trees
+      → AllZip (Spells Fixed fold) (bytes_of strings) trees
+  fixed_zip kind [] [] plain are = tt
+  fixed_zip kind [] (t ∷ trees) plain are = absurd are
+  fixed_zip kind (s ∷ strings) [] plain are = absurd are
+  fixed_zip kind (s ∷ strings) (t ∷ trees) plain are =
+      let string = plain 0 s (omega arith) in (
+        subst (Spells Fixed fold s.now) (are.0.only (string_pattern fold s.now)
+            (string_spelled kind s.now string).spells) (spells_pattern s.now string.0),
+        fixed_zip kind strings trees (λ k d less. plain (suc k) d (omega (arith, less))) are.1,
+      )
 
 -- the trees of a text whose patterns are the strings
 pub string_trees : (text : SearchText) (strings : List (Bor (List ℕ))) → AreItsStrings text strings
     → AreTreesOf text (string_patterns text.fold strings)
 string_trees text strings are =
-    let ps = string_patterns text.fold strings in
-    subst (λ kind. AreSpelled kind text.fold (patterns text.lists) ps) (sym are.fixed)
-    (subst (λ texts. AreSpelled Fixed text.fold texts ps) are.each (strings_spell text.fold strings are.short))
+    subst (λ texts. AreSpelled text.kind text.fold texts (string_patterns text.fold strings)) are.each
+    (strings_spell text.fold text.kind strings are.plain)
+
+-- such a text's patterns spell what they spell as fixed strings
+pub strings_fixed : (text : SearchText) (strings : List (Bor (List ℕ))) → AreItsStrings text strings → AreFixed text
+strings_fixed text strings are trees spelled =
+    subst (λ texts. AllZip (Spells Fixed text.fold) texts trees) are.each
+    (fixed_zip text.fold text.kind strings trees are.plain
+    (subst (λ texts. AreSpelled text.kind text.fold texts trees) (sym are.each) spelled))
 
 -- why no automaton was built for them is why the text isn't compiled
 pub strings_fault : {M : Type 0} (text : SearchText) (strings : List (Bor (List ℕ))) → AreItsStrings text strings

@@ -9,7 +9,8 @@ use Rattle.pg_grammar.specs.ListResults.{IsFirstRefused}
 use Rattle.pg_match.specs.Automata.{Nfa}
 use Rattle.pg_match.specs.Machines.{IsMachineOf}
 use Rattle.pg_match.specs.Sizes.{list_size}
-use Rattle.pg_selection.specs.Search.{SearchText, Pattern, Fixed, patterns, AreTreesOf, bounds_of}
+use Rattle.pg_selection.specs.Search.{SearchText, Pattern, Kind, patterns, AreTreesOf, bounds_of}
+use Rattle.pg_syntax.specs.Plain.{IsPlain}
 use Rattle.pg_lines.specs.declared.query.QueryFault.{QueryFault}
 use Rattle.pg_lines.specs.declared.query.QueryFault.TheVariants.{Syntax, TooLarge, OutOfMemory}
 
@@ -29,11 +30,14 @@ abbrev pub AreSearchersOf : {A : Type 0} → SearchText → Nfa → Prefilter A 
 AreSearchersOf text machine prefilter =
     IsCompiled (record { text = text; machine = machine }) × IsPrefilterOf text prefilter
 
--- the patterns are fixed strings, and these are they, each short enough to be one (XCU grep, -F)
+-- a pattern's text has no special byte, and isn't too long: it spells what it spells as a fixed string (XCU grep, -F)
+abbrev pub IsPlainText : Kind → List ℕ → Type 0
+IsPlainText kind text = (length text ≤ 4096) × IsPlain kind text
+
+-- the patterns are such texts, and these are they
 pub record AreItsStrings (text : SearchText) (strings : List (Bor (List ℕ))) : Type 0 where
-  pub fixed : text.kind ≡ Fixed
   pub each : bytes_of strings ≡ patterns text.lists
-  pub short : All (λ string. length string.now ≤ 4096) strings
+  pub plain : All (λ string. IsPlainText text.kind string.now) strings
 
 -- Why a text isn't compiled: some pattern spells no tree, and the fault is the first such one's; or all spell trees,
 -- which ask for more than 65,536 states; or a request for memory was refused.

@@ -1,5 +1,5 @@
 //! What is searched for.
-ghost use Rattle.std.specs.Prelude.{◌≡◌, ◌<◌, ◌≤◌, ℕ, List, false, length, map, All, IfOk, IfErr, IsTrue};
+ghost use Rattle.std.specs.Prelude.{◌≡◌, ◌↔◌, ◌<◌, ◌≤◌, ℕ, List, false, length, map, All, IfOk, IfErr, IsTrue};
 ghost use Rattle.std.specs.Arc.{arc_value};
 ghost use Rattle.pg_pattern.specs.Patterns.{IsProper};
 ghost use Rattle.pg_pattern.specs.Trees.{pattern};
@@ -8,7 +8,7 @@ ghost use Rattle.pg_selection.specs.Runs.{AllLines};
 ghost use Rattle.pg_literal.specs.Literals.{as_searched};
 ghost use Rattle.pg_prefilter.specs.Literals.{AreLiterals, TellHeads, data_of};
 ghost use Rattle.pg_prefilter.specs.Prefilters.{IsPrefilterOf};
-ghost use Rattle.pg_lines.specs.Queries.{AreItsStrings, AreSearchersOf, IsCompiled, IsQueryFault};
+ghost use Rattle.pg_lines.specs.Queries.{AreItsStrings, IsPlainText, AreSearchersOf, IsCompiled, IsQueryFault};
 ghost use Rattle.pg_lines.specs.declared.query.QueryFault.TheVariants.{OutOfMemory};
 
 use pg_grammar::Kind;
@@ -17,7 +17,7 @@ use pg_match::{BuildFault, Machine};
 use pg_pattern::Tree;
 use pg_prefilter::Prefilter;
 use pg_selection::{QueryText, Selector};
-use pg_syntax::{FaultKind, LONGEST, ListFault, parse_list, texts_of};
+use pg_syntax::{FaultKind, LONGEST, ListFault, is_plain, parse_list, texts_of};
 use std::alloc::{AllocError, Allocator, Global};
 use std::marker::Model;
 use std::sync::Arc;
@@ -212,8 +212,8 @@ fn selector_of<A: Allocator>(
     Ok(Arc::new(alloc, Selector::new(text))?)
 }
 
-/// What searches for a text: its automaton, and what was found in its patterns. Those of fixed strings are made without
-/// trees, which for a long list would take several times as long.
+/// What searches for a text: its automaton, and what was found in its patterns. Where all patterns are plain, as fixed
+/// strings are and most lists of words, they are made without trees, which would take several times as long.
 fn searchers_of<A: Allocator + Copy>(
     alloc: A,
     text: &QueryText<A>,
@@ -221,13 +221,12 @@ fn searchers_of<A: Allocator + Copy>(
     ensures made { IfOk result (λ made. AreSearchersOf text.now made.0 made.1) }
     ensures fault { IfErr result (IsQueryFault text.now) }
 {
-    if text.kind == Kind::Fixed {
-        let strings = texts_of(alloc, text.lists.as_slice())?;
-        if are_short(&strings) {
-            return searchers_of_strings(alloc, text, &strings);
-        }
+    let texts = texts_of(alloc, text.lists.as_slice())?;
+    if are_plain(&texts, text.kind) {
+        searchers_of_strings(alloc, text, &texts)
+    } else {
+        searchers_of_trees(alloc, text)
     }
-    searchers_of_trees(alloc, text)
 }
 
 /// What searches for a text, by its patterns' trees.
@@ -244,7 +243,8 @@ fn searchers_of_trees<A: Allocator + Copy>(
     Ok((machine, prefilter))
 }
 
-/// What searches for a text whose patterns are these fixed strings, each of at most 4,096 bytes.
+/// What searches for a text whose patterns are plain. The strings are the patterns, all of them and in their order, as
+/// `texts_of` gives them, and each has at most 4,096 bytes.
 fn searchers_of_strings<A: Allocator + Copy>(
     alloc: A,
     text: &QueryText<A>,
@@ -259,14 +259,17 @@ fn searchers_of_strings<A: Allocator + Copy>(
     Ok((machine, prefilter))
 }
 
-/// Whether each text may be that of a pattern: it has at most 4,096 bytes.
-fn are_short(texts: &[&[u8]]) -> bool
-    ensures { IsTrue result → All (λ text. length text.now ≤ 4096) texts.now }
+/// Whether each text spells as a pattern of this kind what it spells as a fixed string: it is plain, and has at most
+/// 4,096 bytes.
+fn are_plain(texts: &[&[u8]], kind: Kind) -> bool
+    ensures { IsTrue result ↔ All (λ text. IsPlainText kind text.now) texts.now }
 {
-    texts.iter().all(|text| text.len() <= LONGEST)
+    texts
+        .iter()
+        .all(|text| text.len() <= LONGEST && is_plain(text, kind))
 }
 
-/// The automaton of a text whose patterns are these fixed strings, each of at most 4,096 bytes.
+/// The automaton of a text whose patterns are plain, and are these strings, as for `searchers_of_strings`.
 fn machine_of_strings<A: Allocator + Copy>(
     alloc: A,
     text: &QueryText<A>,

@@ -1,6 +1,6 @@
 -- The literals of fixed strings, for `string_literals` and `literals_of_strings`.
-use Rattle.std.proofs.Common.{◌≡◌, ◌<◌, ◌+◌, ℕ, zero, suc, Bool, List, [], ◌∷◌, ◌++◌, length, map, get_or, refl, sym, ap}
-use Rattle.std.proofs.Common.{◌∙◌, subst, arith, IsTrue, take}
+use Rattle.std.proofs.Common.{◌≡◌, ◌<◌, ◌+◌, ℕ, zero, suc, Bool, List, [], ◌∷◌, ◌++◌, length, map, get_or, refl, sym}
+use Rattle.std.proofs.Common.{ap, ◌∙◌, subst, arith, IsTrue, take}
 use Rattle.std.specs.List.{All, AllZip, Any as AnyOf}
 use Rattle.std.specs.Borrow.{Bor}
 use Rattle.std.proofs.lemmas.List.{get_or_default, map-append, take_more}
@@ -17,8 +17,8 @@ use Rattle.pg_pattern.specs.declared.bounds.Bounds.TheVariants.{Any}
 use Rattle.pg_pattern.specs.Bounds.{MayBegin, MayEnd}
 use Rattle.pg_pattern.specs.Hits.{Hit, HasHit}
 use Rattle.pg_prefilter.specs.Strings.{AreStrings}
-use Rattle.pg_selection.specs.Search.{SearchText, Pattern, Bounds, Fixed, AreTreesOf, bounds_of, patterns, terminator_of}
-use Rattle.pg_prefilter.specs.Fixed.{AreOfStrings, IsOfString}
+use Rattle.pg_selection.specs.Search.{SearchText, Pattern, Bounds, AreTreesOf, bounds_of, patterns, terminator_of}
+use Rattle.pg_prefilter.specs.Fixed.{AreFixed, AreOfStrings, IsOfString}
 use Rattle.pg_prefilter.specs.Literals.{AreLiterals, IsEnough, TellHeads, data_of}
 use Rattle.pg_prefilter.proofs.StringLemmas.{fixed_are, hit_stands, stands_hit}
 
@@ -66,7 +66,7 @@ texts_of_strings fold bounds (s ∷ strings) (l ∷ literals) are =
     ∙ ap (λ ts. as_searched fold s ∷ ts) (texts_of_strings fold bounds strings literals are.1)
 
 module _ {A : Type 0} (text : SearchText) (trees : List Pattern) (spelled : AreTreesOf text trees)
-    (fixed : text.kind ≡ Fixed) (literals : List (Literal A))
+    (fixed : AreFixed text) (literals : List (Literal A))
     (are : AreOfStrings text.fold (bounds_of text) (patterns text.lists) literals) where
   abbrev strings : List (List ℕ)
   strings = map (as_searched text.fold) (patterns text.lists)
@@ -91,8 +91,8 @@ module _ {A : Type 0} (text : SearchText) (trees : List Pattern) (spelled : AreT
   hit_has line i j hit =
       let some = hit_stands text strings are_strings trees spelled (bounds_of text) line i j hit in
       any-unmap (Stands line i j) (λ (l : Literal A). l.text.items) literals
-      (subst (AnyOf (Stands line i j)) (sym (texts_of_strings text.fold (bounds_of text) (patterns text.lists) literals are))
-      some.stands)
+      (subst (AnyOf (Stands line i j))
+      (sym (texts_of_strings text.fold (bounds_of text) (patterns text.lists) literals are)) some.stands)
 
   -- and each literal that is enough has one where it stands
   enough_hit : (line : List ℕ) (k : ℕ) (l : Literal A) → k < length literals → IsTrue (get_or literals k l).is_enough
@@ -128,7 +128,7 @@ module _ {A : Type 0} (text : SearchText) (trees : List Pattern) (spelled : AreT
         (any.0, any.1, any.2, any.3, any.4.0),
       )
 
-module _ {A : Type 0} (text : SearchText) (fixed : text.kind ≡ Fixed) (literals : List (Literal A))
+module _ {A : Type 0} (text : SearchText) (fixed : AreFixed text) (literals : List (Literal A))
     (are : AreOfStrings text.fold (bounds_of text) (patterns text.lists) literals) where
   -- the literals of a text whose patterns are the strings
   pub string_literals_are : All (λ l. IsLine (terminator_of text) l.text.items) literals

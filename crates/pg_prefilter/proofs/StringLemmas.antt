@@ -10,7 +10,6 @@ use Rattle.memchr.specs.Find.{OccursAt}
 use Rattle.pg_pattern.specs.Patterns.{Set}
 use Rattle.pg_grammar.specs.Grammar as G
 use Rattle.pg_grammar.specs.Grammar.{Literal, Spells}
-use Rattle.pg_grammar.specs.ListResults.{AreSpelled}
 use Rattle.pg_pattern.specs.Matches.{Match}
 use Rattle.pg_pattern.specs.Bounds.{is_word_byte, MayBegin, MayEnd}
 use Rattle.pg_pattern.specs.Hits.{Matched, Hit, IsNext}
@@ -21,7 +20,8 @@ use Rattle.pg_selection.proofs.TreeLemmas.{same_trees}
 use Rattle.pg_literal.proofs.RowLemmas.{occurs_nothing, occurs_more, occurs_first}
 use Rattle.pg_literal.proofs.FoldLemmas.{length_searched, searched_append, searched_nothing, searched_one}
 use Rattle.pg_literal.proofs.FoldLemmas.{searched_byte, byte_of_searched, folded_alone}
-use Rattle.pg_selection.specs.Search.{SearchText, Pattern, Kind, Bounds, Any, Word, Whole, Fixed, AreTreesOf, patterns}
+use Rattle.pg_selection.specs.Search.{SearchText, Pattern, Bounds, Any, Word, Whole, Fixed, AreTreesOf, patterns}
+use Rattle.pg_prefilter.specs.Fixed.{AreFixed}
 use Rattle.pg_prefilter.specs.Strings.{AreStrings, IsStringHit, IsNextString, HasNoString, FindsString, FindsPart}
 use Rattle.pg_prefilter.specs.declared.strings.NextString.{NextString}
 use Rattle.pg_prefilter.specs.declared.strings.NextString.TheVariants.{Found, Nowhere, Behind, GaveUp}
@@ -166,24 +166,10 @@ module _ (fold : Bool) (line : List ℕ) where
       let later = stands_matched texts trees h.1 i j k s (omega (arith, less)) is o in
       (later.0, (suc later.1.0, omega (arith, later.1.1), later.1.2), later.2)
 
--- texts that spell fixed strings, each with its pattern
-spelled_zip : (fold : Bool) (texts : List (List ℕ)) (trees : List Pattern) → AreSpelled Fixed fold texts trees
-    → AllZip (Spells Fixed fold) texts trees
-spelled_zip fold [] [] h = tt
-spelled_zip fold [] (t ∷ trees) h = absurd h
-spelled_zip fold (t ∷ texts) [] h = absurd h
-spelled_zip fold (t ∷ texts) (q ∷ trees) h = (h.0.spells, spelled_zip fold texts trees h.1)
-
--- the patterns of a text of fixed strings spell these
-pub fixed_are : (text : SearchText) → text.kind ≡ Fixed
+-- patterns that spell what they do as fixed strings spell these
+pub fixed_are : (text : SearchText) → AreFixed text
     → AreStrings text (map (as_searched text.fold) (patterns text.lists))
-fixed_are text kind = record {
-  fixed = patterns text.lists;
-  spelled = λ trees spelled.
-      let P : Kind → Type 0 = λ k. AreSpelled k text.fold (patterns text.lists) trees in
-      spelled_zip text.fold (patterns text.lists) trees (subst P kind spelled);
-  each = refl;
-}
+fixed_are text fixed = record { fixed = patterns text.lists; spelled = fixed; each = refl }
 
 -- fixed strings that spell some trees, one each
 zip_of_all : (fold : Bool) (trees : List Pattern) → All (IsOfString fold) trees

@@ -1,10 +1,15 @@
--- The literals of fixed strings (XCU grep, -F).
+-- The literals of fixed strings (XCU grep, -F), and of expressions that spell what these do.
 use Rattle.std.specs.Prelude.{◌≡◌, ◌<◌, ◌↔◌, ℕ, Bool, List, length, IsTrue}
 use Rattle.std.specs.List.{AllZip}
 use Rattle.pg_literal.specs.Literals.{as_searched}
 use Rattle.pg_literal.specs.declared.literal.Literal.{Literal}
-use Rattle.pg_pattern.specs.declared.bounds.Bounds.{Bounds}
-use Rattle.pg_pattern.specs.declared.bounds.Bounds.TheVariants.{Any}
+use Rattle.pg_grammar.specs.Grammar.{Spells}
+use Rattle.pg_selection.specs.Search.{SearchText, Pattern, Bounds, Any, Fixed, AreTreesOf, patterns}
+
+-- each pattern spells what it spells as a fixed string
+abbrev pub AreFixed : SearchText → Type 0
+AreFixed text =
+    (trees : List Pattern) → AreTreesOf text trees → AllZip (Spells Fixed text.fold) (patterns text.lists) trees
 
 -- the literal is the string as it is searched for; it is enough where any match counts, and a head unless it is empty
 pub record IsOfString {A : Type 0} (fold : Bool) (bounds : Bounds) (string : List ℕ) (literal : Literal A) : Type 0

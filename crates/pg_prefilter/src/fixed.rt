@@ -1,4 +1,4 @@
-//! The literals of a query whose patterns are fixed strings: the strings themselves.
+//! The literals of a query whose patterns are plain: the strings themselves.
 ghost use Rattle.std.specs.Prelude.{◌≡◌, IfOk};
 ghost use Rattle.pg_grammar.specs.Slices.{bytes_of};
 ghost use Rattle.pg_literal.specs.Literals.{as_searched};

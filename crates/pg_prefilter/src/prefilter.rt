@@ -7,6 +7,7 @@ ghost use Rattle.pg_selection.specs.Search.{SearchText, AreTreesOf, Fixed, patte
 ghost use Rattle.pg_blocks.specs.Lines.{IsLine};
 ghost use Rattle.pg_grammar.specs.Slices.{bytes_of};
 ghost use Rattle.pg_literal.specs.Literals.{as_searched};
+ghost use Rattle.pg_prefilter.specs.Fixed.{AreFixed};
 ghost use Rattle.pg_prefilter.specs.Literals.{AreLiterals, IsRowOf, TellHeads, data_of};
 ghost use Rattle.pg_prefilter.specs.Strings.{HitsIgnoreFront, IsReachOf, IsSetOf, IsSuffixOf};
 ghost use Rattle.pg_prefilter.specs.Prefilters.{IsPrefilterOf};
@@ -72,8 +73,9 @@ impl<A: Allocator> Prefilter<A> {
         })
     }
 
-    /// What is found in a text whose patterns are these fixed strings, without their trees. A refused request for
-    /// memory is the only error.
+    /// What is found in a text whose patterns are plain: fixed strings, or expressions without special bytes. It needs
+    /// no trees. The strings are the patterns, all of them and in their order, as `pg_syntax::texts_of` gives them. A
+    /// refused request for memory is the only error.
     pub fn of_strings(
         alloc: A,
         text: &QueryText<A>,
@@ -81,7 +83,7 @@ impl<A: Allocator> Prefilter<A> {
     ) -> Result<Prefilter<A>, AllocError>
     where
         A: Copy,
-        requires fixed { text.now.kind ≡ Fixed }
+        requires fixed { AreFixed text.now }
         requires strings { bytes_of strings.now ≡ patterns text.now.lists }
         ensures { IfOk result (IsPrefilterOf text.now) }
     {
@@ -185,14 +187,14 @@ fn literals_of<A: Allocator + Copy>(
     }
 }
 
-/// The fixed strings that a text's patterns are, as literals; none where one has the byte that ends a line, or is empty
-/// and not any match counts, for each line holds the empty string.
+/// The literals of a text whose patterns are plain, and are these strings; none where one has the byte that ends a
+/// line, or is empty and not any match counts, for each line holds the empty string.
 fn literals_of_strings<A: Allocator + Copy>(
     alloc: A,
     text: &QueryText<A>,
     strings: &[&[u8]],
 ) -> Result<Vec<Literal<A>, A>, AllocError>
-    requires fixed { text.now.kind ≡ Fixed }
+    requires fixed { AreFixed text.now }
     requires strings { bytes_of strings.now ≡ patterns text.now.lists }
     ensures literals { IfOk result (λ literals. AreLiterals text.now (map data_of literals.items)) }
     ensures heads { IfOk result (λ literals. TellHeads text.now literals.items) }

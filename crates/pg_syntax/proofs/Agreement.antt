@@ -17,7 +17,7 @@ pub body_of : (syntax : Syntax) (fold : Bool) (text : List ℕ) (p : Pattern) �
 body_of S.Basic fold text p e = e
 body_of S.Extended fold text p e = e
 
-of_body : (syntax : Syntax) (fold : Bool) (text : List ℕ) (p : Pattern) → Body syntax fold text p 0
+pub of_body : (syntax : Syntax) (fold : Bool) (text : List ℕ) (p : Pattern) → Body syntax fold text p 0
     → Expression (kind_of syntax) fold text p
 of_body S.Basic fold text p b = b
 of_body S.Extended fold text p b = b

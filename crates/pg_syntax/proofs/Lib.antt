@@ -17,3 +17,4 @@ pub mod TokenBytes
 pub mod Onward
 pub mod Prefixes
 pub mod TokenLoop
+pub mod PlainLemmas

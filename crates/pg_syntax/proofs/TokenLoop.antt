@@ -198,7 +198,7 @@ module _ (syntax : Syntax) (fold : Bool) where
         long = λ h. absurd (omega arith);
       }))
 
-nothing_else : (syntax : Syntax) (fold : Bool) (text : List ℕ) (q : Pattern) → Spells (kind_of syntax) fold text q
+pub nothing_else : (syntax : Syntax) (fold : Bool) (text : List ℕ) (q : Pattern) → Spells (kind_of syntax) fold text q
     → text ≡ [] → q ≡ Empty
 nothing_else syntax fold text q G.nothing e = refl
 nothing_else syntax fold text q (G.some h b) e = absurd

@@ -8,3 +8,4 @@ pub mod Machine
 pub mod Levels
 pub mod States
 pub mod Tokens
+pub mod Plain

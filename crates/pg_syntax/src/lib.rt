@@ -11,9 +11,11 @@ mod element;
 mod interval;
 mod list;
 mod parser;
+mod plain;
 mod source;
 mod token;
 
 pub use list::{parse_list, texts_of};
 pub use parser::{LONGEST, fixed, parse_bre, parse_ere};
 pub use pg_grammar::{FaultKind, Kind, ListFault, PatternList, SyntaxFault};
+pub use plain::is_plain;

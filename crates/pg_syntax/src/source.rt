@@ -34,7 +34,7 @@ pub(crate) struct Source<'a> {
 type Found = Result<(Token, usize), SyntaxFault>;
 
 /// Whether a byte is one of some bytes.
-fn is_among(byte: u8, bytes: &[u8]) -> bool
+pub(crate) fn is_among(byte: u8, bytes: &[u8]) -> bool
     ensures { result ≡ list_any (λ c. byte == c) bytes.now }
 {
     bytes.iter().any(|c| byte == *c)

@@ -1,4 +1,4 @@
-use Rattle.std.proofs.Common.{◌≡◌, ◌<◌, Err, ap, inl, inr, subst, sym}
+use Rattle.std.proofs.Common.{◌≡◌, ◌<◌, Bool, Err, ap, inl, inr, subst, sym}
 use Rattle.std.proofs.lemmas.Bool.{cases_lt}
 use Rattle.pg_match.specs.Machines.{IsMachineOf}
 use Rattle.pg_match.specs.Sizes.{list_size}
@@ -23,8 +23,9 @@ returns-clause-machine g c =
     let trees = string_patterns text.fold strings in
     let machine = c.in_ok-machine.machine in
     let fold : c.text.inside.fold ≡ text.fold = ap (λ (t : SearchText). t.fold) c.text.view_is in
+    let Of : Bool → Type 0 = λ f. IsMachineOf machine (string_patterns f strings) c.bounds.result in
     let built = subst (λ b. IsMachineOf machine trees b) c.bounds.ensures
-    (subst (λ f. IsMachineOf machine (string_patterns f strings) c.bounds.result) fold c.in_ok-machine.ensures.built) in (
+    (subst Of fold c.in_ok-machine.ensures.built) in (
       trees,
       string_trees text strings c.requires.strings,
       built,
