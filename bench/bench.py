@@ -168,6 +168,11 @@ def cases(folder, megabytes):
     # The same words, taken for expressions.
     for options in LISTS:
         yield Case([options, "-f", "known-2000"], "prose", [options, "-f", "known-2000"])
+    # And with an empty line among them, which ripgrep takes minutes for with -w.
+    write(folder / "known-and-empty", (folder / "known-2000").read_bytes() + b"\n")
+    for options in ("-o", "-oi", "-ow", "-cw"):
+        ripgrep = None if "w" in options else ["-F", options, "-f", "known-and-empty"]
+        yield Case(["-F", options, "-f", "known-and-empty"], "prose", ripgrep)
     for name, chosen in (("known", texts.known(words, 200)), ("frequent", words[:200]), ("rare", words[-200:])):
         write(folder / f"expressions-{name}", "".join(f"{word}[0-9]+x\n" for word in chosen).encode())
         yield Case(["-cE", "-f", f"expressions-{name}"], "prose", ["-c", "-f", f"expressions-{name}"])

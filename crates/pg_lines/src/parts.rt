@@ -57,6 +57,7 @@ fn next_part<A: Allocator>(
     match next_by_judge(query, judge, line, at, from) {
         NextString::Found(part) => Some((part.start, part.end)),
         NextString::Nowhere => None,
+        NextString::OnlyEmpty => None,
         NextString::Behind(place) => machine.next_part(scratch, line, place),
         NextString::GaveUp => machine.next_part(scratch, line, from),
     }

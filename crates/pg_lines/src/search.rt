@@ -84,7 +84,7 @@ fn has_hit<A: Allocator>(
         NextString::Found(_) => true,
         NextString::Nowhere => false,
         NextString::Behind(place) => has_hit_behind(query, scratch, line, place),
-        NextString::GaveUp => query.machine().selects(scratch, line),
+        NextString::OnlyEmpty | NextString::GaveUp => query.machine().selects(scratch, line),
     }
 }
 
@@ -449,6 +449,7 @@ fn search_by<A: Allocator + Copy>(
     let found = query.prefilter();
     let judge = LineJudge::first_of(
         fixed_strings(set),
+        found.non_empty(),
         found.suffix(),
         near_text(options, literals, found.ignores_front(), found.reach()),
     );

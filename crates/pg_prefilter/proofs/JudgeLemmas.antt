@@ -7,7 +7,7 @@ use Rattle.std.proofs.lemmas.List.{take-map, take-take, take_rest, drop-drop, le
 use Rattle.pg_literal.specs.Literals.{as_searched}
 use Rattle.pg_strings.specs.Outcomes.{strings_of}
 use Rattle.pg_selection.specs.Search.{SearchText}
-use Rattle.pg_prefilter.specs.Strings.{IsNear, AreStrings, IsSetOf, IsSuffixOf, IsBlockJudge, JudgesLine}
+use Rattle.pg_prefilter.specs.Strings.{IsNear, AreStrings, AreNonEmpty, IsSetOf, IsSuffixOf, IsBlockJudge, JudgesLine}
 use Rattle.pg_prefilter.specs.Strings.{IsJudgeOf, ReadsSearched, first_judge}
 use Rattle.pg_prefilter.specs.declared.literal_set.LiteralSet.{LiteralSet}
 use Rattle.pg_literal.specs.declared.suffix.LineSuffix.{LineSuffix}
@@ -86,25 +86,27 @@ module _ {A : Type 0} (set : Option (Bor (LiteralSet A))) where
   AreOfSet strings = IsSomeAnd set (λ x. IsTrue x.now.is_fixed × (strings.now ≡ x.now.strings))
 
   -- the first of what was found of a query judges its lines
-  pub judge_known : (text : SearchText) (strings : Option (Bor (StringSet A)))
+  pub judge_known : (text : SearchText) (strings some : Option (Bor (StringSet A)))
       (suffix : Option (Bor (LineSuffix A))) (near : Option NearText) → IfSome set (λ x. IsSetOf text x.now)
-      → IfSome strings AreOfSet
+      → IfSome strings AreOfSet → IfSome some (λ x. AreNonEmpty text (strings_of x.now))
       → IfSome suffix (λ x. IsSuffixOf text x.now) → IfSome near (λ x. IsNear text x.finder x.before)
-      → IsJudgeOf text (first_judge strings suffix near)
-  judge_known text (Some y) suffix near known fixed ends stands =
+      → IsJudgeOf text (first_judge strings some suffix near)
+  judge_known text (Some y) some suffix near known fixed non_empty ends stands =
       let Are : StringSet A → Type 0 = λ s. AreStrings text (strings_of s) in
       let both = said_by_both _ _ set fixed known in
       subst Are (sym both.1.1) (both.2.1 both.1.0)
-  judge_known text None (Some x) near known fixed ends stands = ends
-  judge_known text None None (Some x) known fixed ends stands = stands
-  judge_known text None None None known fixed ends stands = tt
+  judge_known text None (Some x) suffix near known fixed non_empty ends stands = non_empty
+  judge_known text None None (Some x) near known fixed non_empty ends stands = ends
+  judge_known text None None None (Some x) known fixed non_empty ends stands = stands
+  judge_known text None None None None known fixed non_empty ends stands = tt
 
   -- what is known where there is a set or a literal is known where strings or a text are looked for
-  pub judge_reads : (P : Type 0) (count : ℕ) (strings : Option (Bor (StringSet A)))
+  pub judge_reads : (P : Type 0) (count : ℕ) (strings non_empty : Option (Bor (StringSet A)))
       (suffix : Option (Bor (LineSuffix A))) (near : Option NearText) → IfSome strings AreOfSet
       → IfSome near (λ _. 0 < count) → IfSome set (λ _. P) → (0 < count → P)
-      → ReadsSearched (first_judge strings suffix near) → P
-  judge_reads P count (Some y) suffix near fixed some many few reads = (said_by_both _ _ set fixed many).2
-  judge_reads P count None (Some x) near fixed some many few reads = absurd reads
-  judge_reads P count None None (Some x) fixed some many few reads = few some
-  judge_reads P count None None None fixed some many few reads = absurd reads
+      → ReadsSearched (first_judge strings non_empty suffix near) → P
+  judge_reads P count (Some y) non_empty suffix near fixed some many few reads = (said_by_both _ _ set fixed many).2
+  judge_reads P count None (Some x) suffix near fixed some many few reads = absurd reads
+  judge_reads P count None None (Some x) near fixed some many few reads = absurd reads
+  judge_reads P count None None None (Some x) fixed some many few reads = few some
+  judge_reads P count None None None None fixed some many few reads = absurd reads

@@ -6,6 +6,7 @@ pub mod LiteralLemmas
 pub mod MayLemmas
 pub mod NearLemmas
 pub mod NeedleLemmas
+pub mod NonEmptyLemmas
 pub mod NeedleRowLemmas
 pub mod NeedleSetLemmas
 pub mod SoughtLemmas

@@ -24,7 +24,7 @@ use Rattle.pg_selection.specs.Search.{SearchText, Pattern, Bounds, Any, Word, Wh
 use Rattle.pg_prefilter.specs.Fixed.{AreFixed}
 use Rattle.pg_prefilter.specs.Strings.{AreStrings, IsStringHit, IsNextString, HasNoString, FindsString, FindsPart}
 use Rattle.pg_prefilter.specs.declared.strings.NextString.{NextString}
-use Rattle.pg_prefilter.specs.declared.strings.NextString.TheVariants.{Found, Nowhere, Behind, GaveUp}
+use Rattle.pg_prefilter.specs.declared.strings.NextString.TheVariants.{Found, Nowhere, OnlyEmpty, Behind, GaveUp}
 
 -- the first of two texts in a row
 occurs_front : (xs s t : List ℕ) (i : ℕ) → OccursAt xs (s ++ t) i → OccursAt xs s i
@@ -297,4 +297,5 @@ module _ (text : SearchText) (strings : List (List ℕ)) (are : AreStrings text 
     omega (arith, behind.1, length_searched text.fold line),
     λ i j low hit. behind.2 i j low (hit_stands i j hit),
   )
+  found_part place OnlyEmpty none = λ i j low some hit. none i j low some (hit_stands i j hit)
   found_part place GaveUp none = tt

@@ -1,7 +1,7 @@
 -- Queries whose patterns are all fixed strings, or spell what such strings do, or whose matches have a text near where
 -- they begin or are a line's end, and where these stand in a line (XCU grep, -F; GNU grep, -w and -o).
-use Rattle.std.specs.Prelude.{◌≡◌, ℕ, ◌+◌, ◌<◌, ◌≤◌, List, length, map, slice_range}
-use Rattle.std.specs.Prelude.{Option, None, Some, IsTrue}
+use Rattle.std.specs.Prelude.{◌≡◌, ℕ, ◌+◌, ◌<◌, ◌≤◌, List, [], ◌∷◌, length, map, slice_range}
+use Rattle.std.specs.Prelude.{Option, None, Some, IsTrue, false}
 use Rattle.std.specs.Borrow.{Bor}
 use Rattle.std.specs.List.{Any, AllZip}
 use Rattle.memchr.specs.Find.{OccursAt}
@@ -21,16 +21,29 @@ use Rattle.pg_prefilter.specs.Literals.{AreLiterals, set_literals}
 use Rattle.pg_prefilter.specs.declared.literal_set.LiteralSet.{LiteralSet}
 use Rattle.pg_prefilter.specs.declared.strings.BlockJudge.{BlockJudge}
 use Rattle.pg_prefilter.specs.declared.strings.LineJudge.{LineJudge}
-use Rattle.pg_prefilter.specs.declared.strings.LineJudge.TheVariants.{Strings, Suffix, Near, Nothing}
+use Rattle.pg_prefilter.specs.declared.strings.LineJudge.TheVariants.{Strings, NonEmpty, Suffix, Near, Nothing}
 use Rattle.pg_prefilter.specs.declared.strings.NearText.{NearText}
 use Rattle.pg_prefilter.specs.declared.strings.NextString.{NextString}
-use Rattle.pg_prefilter.specs.declared.strings.NextString.TheVariants.{Found, Nowhere, Behind, GaveUp}
+use Rattle.pg_prefilter.specs.declared.strings.NextString.TheVariants.{Found, Nowhere, OnlyEmpty, Behind, GaveUp}
 
 -- the patterns spell what these fixed strings spell; with -i they are in lower case
 pub record AreStrings (text : SearchText) (strings : List (List ℕ)) : Type 0 where
   pub fixed : List (List ℕ)
   pub spelled : (trees : List Pattern) → AreTreesOf text trees → AllZip (Spells Fixed text.fold) fixed trees
   pub each : strings ≡ map (as_searched text.fold) fixed
+
+-- those of the strings that have a byte
+abbrev pub without_empty : List (List ℕ) → List (List ℕ)
+without_empty [] = []
+without_empty ([] ∷ strings) = without_empty strings
+without_empty ((b ∷ string) ∷ strings) = (b ∷ string) ∷ without_empty strings
+
+-- the patterns spell what some fixed strings spell, of which these have a byte; case isn't folded
+pub record AreNonEmpty (text : SearchText) (strings : List (List ℕ)) : Type 0 where
+  pub fold : text.fold ≡ false
+  pub all : List (List ℕ)
+  pub are : AreStrings text all
+  pub each : strings ≡ without_empty all
 
 -- a string stands in the line from one place up to another, and a match may begin and end there
 pub record IsStringHit (strings : List (List ℕ)) (bounds : Bounds) (line : List ℕ) (i j : ℕ) : Type 0 where
@@ -57,17 +70,28 @@ FindsString strings bounds line place Nowhere = HasNoString strings bounds line 
 FindsString strings bounds line place (Behind next) =
     (place ≤ next) × (next ≤ length line)
     × ((i j : ℕ) → place ≤ i → IsStringHit strings bounds line i j → (next ≤ i) × (i < j))
+FindsString strings bounds line place OnlyEmpty =
+    (i j : ℕ) → place ≤ i → i < j → IsStringHit strings bounds line i j → ⊥
 FindsString strings bounds line place GaveUp = Unit {0}
 
--- the next match of some patterns from a place on; or there is none; or a place that none begins before, and none is
--- empty
+-- the next match of some patterns from a place on; or there is none, or none with a byte; or a place that none begins
+-- before, and none is empty
 abbrev pub FindsPart : List Pattern → Bounds → List ℕ → ℕ → NextString → Type 0
 FindsPart patterns bounds line place (Found span) = IsNext patterns bounds line place span.start span.end
 FindsPart patterns bounds line place Nowhere = (i j : ℕ) → place ≤ i → Hit patterns bounds line i j → ⊥
 FindsPart patterns bounds line place (Behind next) =
     (place ≤ next) × (next ≤ length line)
     × ((i j : ℕ) → place ≤ i → Hit patterns bounds line i j → (next ≤ i) × (i < j))
+FindsPart patterns bounds line place OnlyEmpty = (i j : ℕ) → place ≤ i → i < j → Hit patterns bounds line i j → ⊥
 FindsPart patterns bounds line place GaveUp = Unit {0}
+
+-- what is found of all strings, where only those with a byte were looked for
+abbrev pub of_all : NextString → NextString
+of_all (Found span) = Found span
+of_all Nowhere = OnlyEmpty
+of_all OnlyEmpty = OnlyEmpty
+of_all (Behind next) = GaveUp
+of_all GaveUp = GaveUp
 
 -- the literals of a set tell of the query's lines; where it says so they are what its patterns spell
 abbrev pub IsSetOf : {A : Type 0} → SearchText → LiteralSet A → Type 0
@@ -94,17 +118,20 @@ abbrev pub IsSuffixOf : {A : Type 0} → SearchText → LineSuffix A → Type 0
 IsSuffixOf text suffix =
     (trees : List Pattern) → AreTreesOf text trees → IsSuffix trees (bounds_of text) (suffix_row suffix)
 
--- the first that there is: strings, a suffix, a text that stands near where matches begin; or nothing
-abbrev pub first_judge : {A : Type 0} → Option (Bor (StringSet A)) → Option (Bor (LineSuffix A)) → Option NearText
-    → LineJudge A
-first_judge (Some set) suffix near = Strings set
-first_judge None (Some suffix) near = Suffix suffix
-first_judge None None (Some near) = Near near
-first_judge None None None = Nothing
+-- the first that there is: strings, those with a byte, a suffix, a text that stands near where matches begin; or
+-- nothing
+abbrev pub first_judge : {A : Type 0} → Option (Bor (StringSet A)) → Option (Bor (StringSet A))
+    → Option (Bor (LineSuffix A)) → Option NearText → LineJudge A
+first_judge (Some set) non_empty suffix near = Strings set
+first_judge None (Some set) suffix near = NonEmpty set
+first_judge None None (Some suffix) near = Suffix suffix
+first_judge None None None (Some near) = Near near
+first_judge None None None None = Nothing
 
 -- the strings are what the query's patterns spell, the suffix is its hits, or the text stands near where they begin
 abbrev pub IsJudgeOf : {A : Type 0} → SearchText → LineJudge A → Type 0
 IsJudgeOf text (Strings set) = AreStrings text (strings_of set.now)
+IsJudgeOf text (NonEmpty set) = AreNonEmpty text (strings_of set.now)
 IsJudgeOf text (Suffix suffix) = IsSuffixOf text suffix.now
 IsJudgeOf text (Near near) = IsNear text near.finder near.before
 IsJudgeOf text Nothing = Unit {0}
@@ -112,6 +139,7 @@ IsJudgeOf text Nothing = Unit {0}
 -- the judge looks in the bytes as they are searched, as strings and a text do; a suffix is looked for in the line
 abbrev pub ReadsSearched : {A : Type 0} → LineJudge A → Type 0
 ReadsSearched (Strings set) = Unit {0}
+ReadsSearched (NonEmpty set) = ⊥
 ReadsSearched (Suffix suffix) = ⊥
 ReadsSearched (Near near) = Unit {0}
 ReadsSearched Nothing = ⊥

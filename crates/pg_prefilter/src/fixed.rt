@@ -1,8 +1,10 @@
 //! The literals of a query whose patterns are plain: the strings themselves.
-ghost use Rattle.std.specs.Prelude.{◌≡◌, IfOk};
+ghost use Rattle.std.specs.Prelude.{◌≡◌, IfOk, map};
 ghost use Rattle.pg_grammar.specs.Slices.{bytes_of};
 ghost use Rattle.pg_literal.specs.Literals.{as_searched};
+ghost use Rattle.pg_strings.specs.Keys.{items_of};
 ghost use Rattle.pg_prefilter.specs.Fixed.{AreOfStrings, IsOfString};
+ghost use Rattle.pg_prefilter.specs.Strings.{without_empty};
 
 use pg_literal::Literal;
 use pg_pattern::Bounds;
@@ -37,6 +39,27 @@ fn literal_of<A: Allocator>(
         is_enough: bounds == Bounds::Any,
         is_head: !string.is_empty(),
     })
+}
+
+/// Whether some string is empty.
+pub(crate) fn have_empty(strings: &[&[u8]]) -> bool {
+    strings.iter().any(|string| string.is_empty())
+}
+
+/// Copies of the strings that have a byte, in their order.
+pub(crate) fn with_bytes<A: Allocator + Copy>(
+    alloc: A,
+    strings: &[&[u8]],
+) -> Result<Vec<Vec<u8, A>, A>, AllocError>
+    ensures { IfOk result (λ copies. map items_of copies.items ≡ without_empty (bytes_of strings.now)) }
+{
+    let mut copies = Vec::new(alloc);
+    for string in strings {
+        if !string.is_empty() {
+            copies.push(copy_as_searched(alloc, string, false)?)?;
+        }
+    }
+    Ok(copies)
 }
 
 /// The literals of strings, in their order.

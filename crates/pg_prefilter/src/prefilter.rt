@@ -9,14 +9,16 @@ ghost use Rattle.pg_grammar.specs.Slices.{bytes_of};
 ghost use Rattle.pg_literal.specs.Literals.{as_searched};
 ghost use Rattle.pg_prefilter.specs.Fixed.{AreFixed};
 ghost use Rattle.pg_prefilter.specs.Literals.{AreLiterals, IsRowOf, TellHeads, data_of};
-ghost use Rattle.pg_prefilter.specs.Strings.{HitsIgnoreFront, IsReachOf, IsSetOf, IsSuffixOf};
+ghost use Rattle.pg_strings.specs.Outcomes.{strings_of};
+ghost use Rattle.pg_prefilter.specs.Strings.{AreNonEmpty, HitsIgnoreFront, IsReachOf, IsSetOf, IsSuffixOf};
 ghost use Rattle.pg_prefilter.specs.Prefilters.{IsPrefilterOf};
 
-use crate::fixed::string_literals;
+use crate::fixed::{have_empty, string_literals, with_bytes};
 use crate::literal_set::{LiteralSet, few_of, has_empty};
-use pg_literal::{LineSuffix, Literal, RowFinder, are_strings, looks_behind, reach};
+use pg_literal::{FEW_TEXTS, LineSuffix, Literal, RowFinder, are_strings, looks_behind, reach};
 use pg_pattern::{Bounds, Tree};
 use pg_selection::QueryText;
+use pg_strings::StringSet;
 use std::alloc::{AllocError, Allocator, Global};
 
 /// What was found in the patterns of a query, by which lines are judged before the automaton is asked.
@@ -25,6 +27,9 @@ pub struct Prefilter<A: Allocator = Global> {
     pub(crate) literals: Vec<Literal<A>, A>,
     /// All literals, if there are many.
     pub(crate) literal_set: Option<LiteralSet<A>>,
+    /// The patterns with a byte, if parts of lines are asked for, the patterns are plain, more than 8, and some of them
+    /// empty, and case isn't folded.
+    non_empty: Option<StringSet<A>>,
     /// The suffix that each match is, if there is one.
     suffix: Option<LineSuffix<A>>,
     /// What stands before a place of a line doesn't matter to the matches behind it.
@@ -40,6 +45,7 @@ impl<A: Allocator> Drop for Prefilter<A> {
         let Prefilter {
             literals: _,
             literal_set: _,
+            non_empty: _,
             suffix: _,
             ignores_front: _,
             reach: _,
@@ -66,6 +72,7 @@ impl<A: Allocator> Prefilter<A> {
         Ok(Prefilter {
             literals: few_of(alloc, literals),
             literal_set,
+            non_empty: None,
             suffix,
             ignores_front,
             reach,
@@ -89,9 +96,11 @@ impl<A: Allocator> Prefilter<A> {
     {
         let literals = literals_of_strings(alloc, text, strings)?;
         let literal_set = LiteralSet::of(alloc, &literals, true, text.bounds())?;
+        let non_empty = non_empty_of(alloc, text, strings)?;
         Ok(Prefilter {
             literals: few_of(alloc, literals),
             literal_set,
+            non_empty,
             suffix: None,
             ignores_front: false,
             reach: None,
@@ -116,6 +125,15 @@ impl<A: Allocator> Prefilter<A> {
         ensures { (text : SearchText) → IsPrefilterOf text self.now → IfSome result (λ set. IsSetOf text set.now) }
     {
         self.literal_set.as_ref()
+    }
+
+    /// The strings with a byte that the patterns spell, where parts of lines are asked for and some pattern is empty:
+    /// then they alone tell which parts have a byte.
+    pub fn non_empty(&self) -> Option<&StringSet<A>>
+        ensures { (text : SearchText) → IsPrefilterOf text self.now
+            → IfSome result (λ set. AreNonEmpty text (strings_of set.now)) }
+    {
+        self.non_empty.as_ref()
     }
 
     /// Whether the hits behind a place of a line are those of the rest of the line.
@@ -208,6 +226,24 @@ fn literals_of_strings<A: Allocator + Copy>(
         return Ok(Vec::new(alloc));
     }
     Ok(literals)
+}
+
+/// The strings with a byte of a text whose patterns are plain, and are these strings: where parts of lines are asked
+/// for, there are more than 8 strings, some of them empty, and case isn't folded.
+fn non_empty_of<A: Allocator + Copy>(
+    alloc: A,
+    text: &QueryText<A>,
+    strings: &[&[u8]],
+) -> Result<Option<StringSet<A>>, AllocError>
+    requires fixed { AreFixed text.now }
+    requires strings { bytes_of strings.now ≡ patterns text.now.lists }
+    ensures { IfOk result (λ found. IfSome found (λ set. AreNonEmpty text.now (strings_of set))) }
+{
+    if text.fold || !text.with_parts || strings.len() <= FEW_TEXTS || !have_empty(strings) {
+        return Ok(None);
+    }
+    let set = StringSet::new(alloc, with_bytes(alloc, strings)?)?;
+    Ok(Some(set))
 }
 
 /// The suffix that each match of a text's patterns is, whose trees these are, where there is one.

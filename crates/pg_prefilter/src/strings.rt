@@ -7,7 +7,7 @@ ghost use Rattle.pg_prefilter.specs.Literals.{AreLiterals, TellHeads, data_of};
 ghost use Rattle.pg_literal.specs.Literals.{as_searched};
 ghost use Rattle.pg_literal.specs.Suffixes.{IsSuffix, suffix_row};
 ghost use Rattle.pg_prefilter.specs.Strings.{FindsString, FindsPart, IsNear, IsReachOf, JudgesLine};
-ghost use Rattle.pg_prefilter.specs.Strings.{first_judge};
+ghost use Rattle.pg_prefilter.specs.Strings.{first_judge, of_all};
 ghost use Rattle.pg_prefilter.specs.declared.strings.LineJudge.TheVariants.{Nothing};
 
 use memchr::memmem::Finder;
@@ -29,6 +29,8 @@ pub enum NextString {
     Found(Span),
     /// There is none.
     Nowhere,
+    /// There is none with a byte.
+    OnlyEmpty,
     /// It doesn't begin before this place, and isn't empty.
     Behind(usize),
     /// To look for strings takes too long here, or there are none to look for.
@@ -46,6 +48,8 @@ pub struct NearText<'s> {
 pub enum LineJudge<'s, A: Allocator> {
     /// The strings that the patterns of a query spell, where each of these is bytes one behind the other.
     Strings(&'s StringSet<A>),
+    /// Of such strings those with a byte, where case isn't folded. What the others match has none.
+    NonEmpty(&'s StringSet<A>),
     /// The suffix of a line that each match is.
     Suffix(&'s LineSuffix<A>),
     /// A text that stands near where each match begins.
@@ -58,6 +62,7 @@ impl<'s, A: Allocator> Drop for LineJudge<'s, A> {
     fn drop(self) {
         match self {
             LineJudge::Strings(_) => {}
+            LineJudge::NonEmpty(_) => {}
             LineJudge::Suffix(_) => {}
             LineJudge::Near(_) => {}
             LineJudge::Nothing => {}
@@ -143,6 +148,17 @@ fn next_string<A: Allocator>(
     }
 }
 
+/// What was found of all strings, where only those with a byte were looked for.
+fn of_all(found: NextString) -> NextString
+    ensures { result ≡ of_all found }
+{
+    match found {
+        NextString::Found(span) => NextString::Found(span),
+        NextString::Nowhere | NextString::OnlyEmpty => NextString::OnlyEmpty,
+        NextString::Behind(_) | NextString::GaveUp => NextString::GaveUp,
+    }
+}
+
 /// The match of a line, from a place on, whose matches are a suffix.
 fn next_suffix<A: Allocator>(suffix: &LineSuffix<A>, line: &[u8], from: usize) -> NextString
     ensures { (trees : List Pattern) (bounds : Bounds) → IsSuffix trees bounds (suffix_row suffix.now)
@@ -216,17 +232,21 @@ pub fn near_text<'l, A: Allocator>(
 }
 
 impl<'s, A: Allocator> LineJudge<'s, A> {
-    /// The first judge that is given: the strings, the suffix, the near text; or nothing. The near text comes last: it
-    /// tells where no match begins, and not where one does.
+    /// The first judge that is given: the strings, those with a byte, the suffix, the near text; or nothing. The near
+    /// text comes last: it tells where no match begins, and not where one does.
     pub fn first_of(
         set: Option<&'s StringSet<A>>,
+        non_empty: Option<&'s StringSet<A>>,
         suffix: Option<&'s LineSuffix<A>>,
         near: Option<NearText<'s>>,
     ) -> LineJudge<'s, A>
-        ensures { result ≡ first_judge set.entry suffix.entry near.entry }
+        ensures { result ≡ first_judge set.entry non_empty.entry suffix.entry near.entry }
     {
         if let Some(set) = set {
             return LineJudge::Strings(set);
+        }
+        if let Some(set) = non_empty {
+            return LineJudge::NonEmpty(set);
         }
         if let Some(suffix) = suffix {
             return LineJudge::Suffix(suffix);
@@ -261,18 +281,12 @@ impl<'s, A: Allocator> BlockJudge<'s, A> {
     pub fn is_nothing(&self) -> bool
         ensures { IsTrue result ↔ (self.now.judge ≡ Nothing) }
     {
-        match &self.judge {
-            LineJudge::Nothing => true,
-            LineJudge::Strings(_) | LineJudge::Suffix(_) | LineJudge::Near(_) => false,
-        }
+        matches!(&self.judge, LineJudge::Nothing)
     }
 
     /// Whether there is but a text that stands near where each match begins.
     pub fn is_near_text(&self) -> bool {
-        match &self.judge {
-            LineJudge::Near(_) => true,
-            LineJudge::Strings(_) | LineJudge::Suffix(_) | LineJudge::Nothing => false,
-        }
+        matches!(&self.judge, LineJudge::Near(_))
     }
 
     /// Of a line that stands at a place of the block the next match from a place of the line on, or from its end. The
@@ -288,6 +302,7 @@ impl<'s, A: Allocator> BlockJudge<'s, A> {
                 let searched = &self.searched[at..at + line.len()];
                 next_string(set, text.bounds(), searched, from)
             }
+            LineJudge::NonEmpty(set) => of_all(next_string(set, text.bounds(), line, from)),
             LineJudge::Suffix(suffix) => next_suffix(suffix, line, from),
             LineJudge::Near(near) => next_near(near, &self.searched[at..at + line.len()], from),
             LineJudge::Nothing => NextString::GaveUp,

@@ -16,6 +16,9 @@ returns-in-Found-clause-next g c = λ trees spelled. c.in-Found.ensures trees sp
 pub returns-in-Nowhere-clause-next : goal.returns-in-Nowhere-clause-next
 returns-in-Nowhere-clause-next g c = λ trees spelled i j low some hit. c.in-Nowhere.ensures trees spelled i j low hit
 
+pub returns-in-OnlyEmpty-clause-next : goal.returns-in-OnlyEmpty-clause-next
+returns-in-OnlyEmpty-clause-next g c = λ trees spelled. c.in-OnlyEmpty.ensures trees spelled
+
 pub returns-in-GaveUp-clause-within : goal.returns-in-GaveUp-clause-within
 returns-in-GaveUp-clause-within g c =
     let q = c.args.query.now in

@@ -17,8 +17,8 @@ returns-in-Nowhere-clause-hit g c = λ trees spelled.
     let none = c.in-Nowhere.ensures trees spelled in
     sym (hit_missed trees (bounds_of c.args.query.now.text) c.args.line.now none)
 
-pub returns-in-GaveUp-clause-hit : goal.returns-in-GaveUp-clause-hit
-returns-in-GaveUp-clause-hit g c = λ trees spelled.
+pub returns-in-OnlyEmpty-clause-hit : goal.returns-in-OnlyEmpty-clause-hit
+returns-in-OnlyEmpty-clause-hit g c = λ trees spelled.
     let query = c.args.query.now in
     let line = c.args.line.now in
     let m = c.machine.ensures in

@@ -28,6 +28,7 @@ selected_runs-requires-clause-ready g c =
     let searched = c.args.searched.now in
     let set = c.args.set in
     let fixed = c.fixed_strings in
+    let some = c.non_empty in
     let suffix = c.suffix in
     let near = c.near_text in
     let new = c.new-judge in
@@ -40,11 +41,12 @@ selected_runs-requires-clause-ready g c =
       within = omega arith;
       judge = record {
         judge = subst (IsJudgeOf text) (sym first)
-            (judge_known set text fixed.result suffix.result near.result c.requires.set fixed.ensures
-            (suffix.ensures text c.prefilter-found.ensures) stands);
+            (judge_known set text fixed.result some.result suffix.result near.result c.requires.set fixed.ensures
+            (some.ensures text c.prefilter-found.ensures) (suffix.ensures text c.prefilter-found.ensures) stands);
         searched = λ reads. new.ensures.searched
             ∙ judge_reads set (searched ≡ as_searched text.fold bytes) (length c.args.literals.now) fixed.result
-            suffix.result near.result fixed.ensures near.ensures.some c.requires.set_searched c.requires.searched
+            some.result suffix.result near.result fixed.ensures near.ensures.some c.requires.set_searched
+            c.requires.searched
             (subst ReadsSearched first reads);
       };
       needles = c.in_ok-needles.ensures.needles text bytes c.requires.literals (sought_known _ _ _ sought known)

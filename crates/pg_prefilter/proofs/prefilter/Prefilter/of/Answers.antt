@@ -42,6 +42,7 @@ returns g c =
           c.in_ok-literal_set.ensures.strings c.in_ok-literal_set.ensures.fixed
           (prepared_are text c.deref.result.now c.in_ok-literal_set.literal_set seen
           c.in_ok-literal_set.ensures.strings c.in_ok-literal_set.ensures.enough);
+      non_empty = tt;
       suffix = c.in_ok-suffix.ensures;
       front = c.ignores_front-ignores_front.ensures;
       reach = c.reach_of-reach.ensures;

@@ -32,6 +32,7 @@ returns g c =
           c.in_ok-literal_set.ensures.strings c.in_ok-literal_set.ensures.fixed
           (prepared_are text c.deref.result.now c.in_ok-literal_set.literal_set seen
           c.in_ok-literal_set.ensures.strings c.in_ok-literal_set.ensures.enough);
+      non_empty = c.in_ok-non_empty.ensures;
       suffix = tt;
       front = λ set. absurd (false≢true set);
       reach = tt;
