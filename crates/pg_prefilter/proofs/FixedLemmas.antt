@@ -18,7 +18,7 @@ use Rattle.pg_pattern.specs.Bounds.{MayBegin, MayEnd}
 use Rattle.pg_pattern.specs.Hits.{Hit, HasHit}
 use Rattle.pg_prefilter.specs.Strings.{AreStrings}
 use Rattle.pg_selection.specs.Search.{SearchText, Pattern, Bounds, AreTreesOf, bounds_of, patterns, terminator_of}
-use Rattle.pg_prefilter.specs.Fixed.{AreFixed, AreOfStrings, IsOfString}
+use Rattle.pg_prefilter.specs.Fixed.{AreFixed, AreStringLiterals, IsStringLiteral}
 use Rattle.pg_prefilter.specs.Literals.{AreLiterals, IsEnough, TellHeads, data_of}
 use Rattle.pg_prefilter.proofs.StringLemmas.{fixed_are, hit_stands, stands_hit}
 
@@ -33,17 +33,17 @@ zip_push R (a ∷ xs) (b ∷ ys) x y h r = (h.0, zip_push R xs ys x y h.1 r)
 -- the literal of one more string
 pub string_more : {A : Type 0} (fold : Bool) (bounds : Bounds) (strings : List (Bor (List ℕ))) (i : ℕ)
     (d : Bor (List ℕ)) → i < length strings → (old new : List (Literal A)) (l : Literal A)
-    → IsOfString fold bounds (get_or strings i d).now l → new ≡ old ++ l ∷ []
-    → AreOfStrings fold bounds (bytes_of (take i strings)) old
-    → AreOfStrings fold bounds (bytes_of (take (i + 1) strings)) new
+    → IsStringLiteral fold bounds (get_or strings i d).now l → new ≡ old ++ l ∷ []
+    → AreStringLiterals fold bounds (bytes_of (take i strings)) old
+    → AreStringLiterals fold bounds (bytes_of (take (i + 1) strings)) new
 string_more {A} fold bounds strings i d less old new l is joins are =
     let string = get_or strings i d in
     let more : bytes_of (take (i + 1) strings) ≡ bytes_of (take i strings) ++ string.now ∷ [] =
     ap bytes_of (take_more strings i d less)
     ∙ map-append (λ (s : Bor (List ℕ)). s.now) (take i strings) (string ∷ []) in
-    subst (AreOfStrings fold bounds (bytes_of (take (i + 1) strings))) (sym joins)
-    (subst (λ ss. AreOfStrings fold bounds ss (old ++ l ∷ [])) (sym more)
-    (zip_push (IsOfString fold bounds) (bytes_of (take i strings)) old string.now l are is))
+    subst (AreStringLiterals fold bounds (bytes_of (take (i + 1) strings))) (sym joins)
+    (subst (λ ss. AreStringLiterals fold bounds ss (old ++ l ∷ [])) (sym more)
+    (zip_push (IsStringLiteral fold bounds) (bytes_of (take i strings)) old string.now l are is))
 
 -- a pair
 zip_at : {X Y : Type 0} (R : X → Y → Type 0) (xs : List X) (ys : List Y) (k : ℕ) (d : X) (e : Y) → AllZip R xs ys
@@ -56,7 +56,7 @@ zip_at R (x ∷ xs) (y ∷ ys) (suc k) d e h less = zip_at R xs ys k d e h.1 (om
 
 -- the texts of the literals of strings
 pub texts_of_strings : {A : Type 0} (fold : Bool) (bounds : Bounds) (strings : List (List ℕ))
-    (literals : List (Literal A)) → AreOfStrings fold bounds strings literals
+    (literals : List (Literal A)) → AreStringLiterals fold bounds strings literals
     → map (λ l. l.text.items) literals ≡ map (as_searched fold) strings
 texts_of_strings fold bounds [] [] are = refl
 texts_of_strings fold bounds [] (l ∷ literals) are = absurd are
@@ -67,7 +67,7 @@ texts_of_strings fold bounds (s ∷ strings) (l ∷ literals) are =
 
 module _ {A : Type 0} (text : SearchText) (trees : List Pattern) (spelled : AreTreesOf text trees)
     (fixed : AreFixed text) (literals : List (Literal A))
-    (are : AreOfStrings text.fold (bounds_of text) (patterns text.lists) literals) where
+    (are : AreStringLiterals text.fold (bounds_of text) (patterns text.lists) literals) where
   abbrev strings : List (List ℕ)
   strings = map (as_searched text.fold) (patterns text.lists)
 
@@ -80,9 +80,9 @@ module _ {A : Type 0} (text : SearchText) (trees : List Pattern) (spelled : AreT
 
   -- a literal and its string
   own_string : (k : ℕ) (l : Literal A) → k < length literals
-      → IsOfString text.fold (bounds_of text) (get_or (patterns text.lists) k []) (get_or literals k l)
+      → IsStringLiteral text.fold (bounds_of text) (get_or (patterns text.lists) k []) (get_or literals k l)
   own_string k l less =
-      let R : List ℕ → Literal A → Type 0 = IsOfString text.fold (bounds_of text) in
+      let R : List ℕ → Literal A → Type 0 = IsStringLiteral text.fold (bounds_of text) in
       zip_at R (patterns text.lists) literals k [] l are less
 
   -- a hit is one of a literal
@@ -129,7 +129,7 @@ module _ {A : Type 0} (text : SearchText) (trees : List Pattern) (spelled : AreT
       )
 
 module _ {A : Type 0} (text : SearchText) (fixed : AreFixed text) (literals : List (Literal A))
-    (are : AreOfStrings text.fold (bounds_of text) (patterns text.lists) literals) where
+    (are : AreStringLiterals text.fold (bounds_of text) (patterns text.lists) literals) where
   -- the literals of a text whose patterns are the strings
   pub string_literals_are : All (λ l. IsLine (terminator_of text) l.text.items) literals
       → AreLiterals text (map data_of literals)
@@ -149,9 +149,9 @@ module _ {A : Type 0} (text : SearchText) (fixed : AreFixed text) (literals : Li
 -- the literals of the strings that are a text's patterns
 pub literals_of_text : {A : Type 0} (text : SearchText) (fold : Bool) (bounds : Bounds) (strings : List (List ℕ))
     (literals : List (Literal A)) → fold ≡ text.fold → bounds ≡ bounds_of text → strings ≡ patterns text.lists
-    → AreOfStrings fold bounds strings literals
-    → AreOfStrings text.fold (bounds_of text) (patterns text.lists) literals
+    → AreStringLiterals fold bounds strings literals
+    → AreStringLiterals text.fold (bounds_of text) (patterns text.lists) literals
 literals_of_text text fold bounds strings literals same within are is =
-    subst (λ ss. AreOfStrings text.fold (bounds_of text) ss literals) are
-    (subst (λ b. AreOfStrings text.fold b strings literals) within
-    (subst (λ f. AreOfStrings f bounds strings literals) same is))
+    subst (λ ss. AreStringLiterals text.fold (bounds_of text) ss literals) are
+    (subst (λ b. AreStringLiterals text.fold b strings literals) within
+    (subst (λ f. AreStringLiterals f bounds strings literals) same is))

@@ -23,7 +23,7 @@ without_more [] s = refl
 without_more ([] ∷ strings) s = without_more strings s
 without_more ((b ∷ t) ∷ strings) s = ap (λ l. (b ∷ t) ∷ l) (without_more strings s)
 
-pub without_next : (strings : List (Bor (List ℕ))) (i : ℕ) (d : Bor (List ℕ)) → i < length strings
+without_next : (strings : List (Bor (List ℕ))) (i : ℕ) (d : Bor (List ℕ)) → i < length strings
     → without_empty (bytes_of (take (i + 1) strings))
     ≡ without_empty (bytes_of (take i strings)) ++ without_empty ((get_or strings i d).now ∷ [])
 without_next strings i d less =
@@ -32,11 +32,11 @@ without_next strings i d less =
     ∙ without_more (bytes_of (take i strings)) (get_or strings i d).now)
 
 -- which has a byte, or has none
-pub without_one : (s : List ℕ) → 0 < length s → without_empty (s ∷ []) ≡ s ∷ []
+without_one : (s : List ℕ) → 0 < length s → without_empty (s ∷ []) ≡ s ∷ []
 without_one [] some = absurd (omega (arith, some))
 without_one (b ∷ s) some = refl
 
-pub without_none : (s : List ℕ) → length s ≡ 0 → without_empty (s ∷ []) ≡ []
+without_none : (s : List ℕ) → length s ≡ 0 → without_empty (s ∷ []) ≡ []
 without_none [] none = refl
 without_none (b ∷ s) none = absurd (omega (arith, none))
 
@@ -75,13 +75,6 @@ without_some [] k d less = absurd (omega (arith, less))
 without_some ([] ∷ strings) k d less = without_some strings k d less
 without_some ((b ∷ s) ∷ strings) zero d less = omega arith
 without_some ((b ∷ s) ∷ strings) (suc k) d less = without_some strings k d (omega (arith, less))
-
--- what holds of all images
-pub all_images : {X Y : Type 0} (P : Y → Type 0) (f : X → Y) (xs : List X) → All P (map f xs) → All (λ x. P (f x)) xs
-all_images P f [] all k d less = absurd (omega (arith, less))
-all_images P f (x ∷ xs) all zero d less = all 0 (f d) (omega arith)
-all_images P f (x ∷ xs) all (suc k) d less =
-    all_images P f xs (λ j e below. all (suc j) e (omega (arith, below))) k d (omega (arith, less))
 
 -- no others stand where a match with a byte does
 stands_below : (line : List ℕ) (i j : ℕ) (strings : List (List ℕ)) → i < j

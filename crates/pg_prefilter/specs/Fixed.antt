@@ -12,12 +12,12 @@ AreFixed text =
     (trees : List Pattern) → AreTreesOf text trees → AllZip (Spells Fixed text.fold) (patterns text.lists) trees
 
 -- the literal is the string as it is searched for; it is enough where any match counts, and a head unless it is empty
-pub record IsOfString {A : Type 0} (fold : Bool) (bounds : Bounds) (string : List ℕ) (literal : Literal A) : Type 0
+pub record IsStringLiteral {A : Type 0} (fold : Bool) (bounds : Bounds) (string : List ℕ) (literal : Literal A) : Type 0
   where
     pub text : literal.text.items ≡ as_searched fold string
     pub enough : IsTrue literal.is_enough ↔ (bounds ≡ Any)
     pub head : IsTrue literal.is_head ↔ (0 < length string)
 
 -- each string has its literal, in their order
-abbrev pub AreOfStrings : {A : Type 0} → Bool → Bounds → List (List ℕ) → List (Literal A) → Type 0
-AreOfStrings fold bounds strings literals = AllZip (IsOfString fold bounds) strings literals
+abbrev pub AreStringLiterals : {A : Type 0} → Bool → Bounds → List (List ℕ) → List (Literal A) → Type 0
+AreStringLiterals fold bounds strings literals = AllZip (IsStringLiteral fold bounds) strings literals

@@ -3,7 +3,7 @@ ghost use Rattle.std.specs.Prelude.{◌≡◌, IfOk, map};
 ghost use Rattle.pg_grammar.specs.Slices.{bytes_of};
 ghost use Rattle.pg_literal.specs.Literals.{as_searched};
 ghost use Rattle.pg_strings.specs.Keys.{items_of};
-ghost use Rattle.pg_prefilter.specs.Fixed.{AreOfStrings, IsOfString};
+ghost use Rattle.pg_prefilter.specs.Fixed.{AreStringLiterals, IsStringLiteral};
 ghost use Rattle.pg_prefilter.specs.Strings.{without_empty};
 
 use pg_literal::Literal;
@@ -32,7 +32,7 @@ fn literal_of<A: Allocator>(
     bounds: Bounds,
     fold: bool,
 ) -> Result<Literal<A>, AllocError>
-    ensures { IfOk result (IsOfString fold bounds string.now) }
+    ensures { IfOk result (IsStringLiteral fold bounds string.now) }
 {
     Ok(Literal {
         text: copy_as_searched(alloc, string, fold)?,
@@ -69,7 +69,7 @@ pub(crate) fn string_literals<A: Allocator + Copy>(
     bounds: Bounds,
     fold: bool,
 ) -> Result<Vec<Literal<A>, A>, AllocError>
-    ensures { IfOk result (λ literals. AreOfStrings fold bounds (bytes_of strings.now) literals.items) }
+    ensures { IfOk result (λ literals. AreStringLiterals fold bounds (bytes_of strings.now) literals.items) }
 {
     let mut literals = Vec::new(alloc);
     for string in strings {

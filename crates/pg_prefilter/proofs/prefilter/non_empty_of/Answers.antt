@@ -6,13 +6,14 @@ use Rattle.pg_selection.specs.Search.{SearchText, patterns}
 use Rattle.pg_literal.specs.Literals.{as_searched}
 use Rattle.pg_prefilter.specs.Strings.{without_empty}
 use Rattle.pg_prefilter.proofs.StringLemmas.{fixed_are}
-use Rattle.pg_prefilter.proofs.NonEmptyLemmas.{all_images, own_strings, without_some}
+use Rattle.pg_prefilter.proofs.NeedleSetLemmas.{all_unmap}
+use Rattle.pg_prefilter.proofs.NonEmptyLemmas.{own_strings, without_some}
 use Rattle.pg_prefilter.proofs.prefilter.non_empty_of.Goals as goal
 
 pub new-requires : goal.new-requires
 new-requires g c =
     let Some : List (List ℕ) → Type 0 = λ ss. All (λ s. 1 ≤ length s) ss in
-    all_images (λ s. 1 ≤ length s) items_of c.in_ok-with_bytes.field-0.items
+    all_unmap (λ s. 1 ≤ length s) items_of c.in_ok-with_bytes.field-0.items
     (subst Some (sym c.in_ok-with_bytes.ensures) (without_some (bytes_of c.args.strings.now)))
 
 pub returns : goal.returns
