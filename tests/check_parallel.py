@@ -4,8 +4,8 @@ byte: `tests/check_parallel.py [--program PATH]`, or `make check-parallel`. It i
 
 It needs GNU parallel; and for shares on other hosts also sshd, ssh, ip and the rights of root, by which it makes two
 hosts of its own in network namespaces on this machine, removed at the end (Debian: parallel, openssh-server,
-openssh-client, iproute2). Without these that part is left out, and a line says so. Times are printed and not judged. The
-last line is `N passed, M failed`.
+openssh-client, iproute2). Without these that part is left out, and a line says so. Times are printed and not judged.
+The last line is `N passed, M failed`.
 """
 
 import os

@@ -7,8 +7,8 @@ promise, and not that an answer names what the function has no more. The edits o
 are applied at once to a copy of the crate, of which these functions alone are checked. The others are stubs there:
 bodies that never return, with a hole for a proof. A caller sees a function's contract alone, so it misses nothing; and
 each wrong function must be refused by a message of its own: an open goal on one of its lines, or an answer of its proof
-that doesn't fit its goal. A proof that only misses a name refuses nothing. An edit of a law, whose contract it turns, is
-in no group with one that has its name, as a caller has, and one that touches what functions share, as a type or a
+that doesn't fit its goal. A proof that only misses a name refuses nothing. An edit of a law, whose contract it turns,
+is in no group with one that has its name, as a caller has, and one that touches what functions share, as a type or a
 constant, in none with others; one that turns no function names that which has to refuse it, by a line `refused by:
 NAME`. An edit without a refusal of its own is tried by itself, and if it has none then either its whole crate is
 checked, without stubs, and any open goal counts.

@@ -103,8 +103,8 @@ def make_deep(chance, folder):
 
 
 def make_small(chance, folder):
-    """Directories of few entries within one another. In the order of a walk what lies in `d1` comes before `d1-`, and in
-    that of the bytes of paths behind it."""
+    """Directories of few entries within one another. In the order of a walk what lies in `d1` comes before `d1-`, and
+    in that of the bytes of paths behind it."""
     for number in range(36):
         below = folder / f"d{number // 3}{('', '-', '.d')[number % 3]}"
         below.mkdir()

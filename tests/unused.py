@@ -1,5 +1,6 @@
 #!/usr/bin/env python3
-"""Finds lemmas that nothing uses and definitions that no contract reaches: `tests/unused.py`
+"""Finds lemmas that nothing uses, definitions that no contract reaches, and names that two definitions have:
+`tests/unused.py`
 
 A lemma or definition under a crate's `proofs` is used where an answer, an invariant, a contract, a definition under
 `specs` or a used lemma names it. A definition under `specs` is reached where a contract, the statement of a law or a
@@ -170,6 +171,15 @@ def roots_of(sources, means):
     return contracts, proofs
 
 
+def shared_names(specs):
+    """A line for each name that definitions of two modules have."""
+    places = defaultdict(dict)
+    for it in specs:
+        module, name = it.key
+        places[name].setdefault(module, it.place)
+    return [f"{' and '.join(found.values())}: both are {name}" for name, found in places.items() if len(found) > 1]
+
+
 def main():
     paths = [it for kind in ("rt", "antt") for it in ROOT.glob(f"crates/*/**/*.{kind}")]
     sources = [Source(it) for it in sorted(paths) if "out" not in it.relative_to(ROOT).parts]
@@ -182,9 +192,11 @@ def main():
     by_proofs = reached(names, means, contracts | proofs | {it.key for it in specs})
     wrong = [f"{it.place}: no contract reaches {it.key[1]}" for it in specs if it.key not in by_contracts]
     wrong += [f"{it.place}: nothing uses {it.key[1]}" for it in lemmas if it.key not in by_proofs]
+    useless = len(wrong)
+    wrong += shared_names(specs)
     for line in wrong:
         print(line)
-    print(f"{len(specs)} definitions and {len(lemmas)} items of proofs, of which {len(wrong)} have no use")
+    print(f"{len(specs)} definitions and {len(lemmas)} items of proofs, of which {useless} have no use")
     print(f"{int(not wrong)} passed, {len(wrong)} failed")
     return 1 if wrong else 0
 

@@ -7,9 +7,9 @@ The toolchain proves them from nothing, those that don't need one another side b
 done, so that an interrupted build leaves nothing behind. A line is printed for each crate as it is proved. Where the
 toolchain keeps on the machine what it has proved, each library has a run of its own, so that those begin first for
 which others wait longest, and a last run over all of them proves those that are left, one after the other, and the
-program, and builds it; a later build proves only what changed. Where it keeps nothing, or takes no names of crates, one run proves all. Where nothing changed since the
-program was built, nothing is done. RT_JOBS says how many proofs run at once, each on one processor; without it there
-are as many as there are processors and memory for.
+program, and builds it; a later build proves only what changed. Where it keeps nothing, or takes no names of crates, one
+run proves all. Where nothing changed since the program was built, nothing is done. RT_JOBS says how many proofs run at
+once, each on one processor; without it there are as many as there are processors and memory for.
 """
 
 import hashlib

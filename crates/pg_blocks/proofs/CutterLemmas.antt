@@ -11,9 +11,9 @@ use Rattle.pg_blocks.specs.Blocks.{BlockData, joined, EndsWith, IsFinished, IsUn
 use Rattle.pg_blocks.specs.Blocks.{CutsBehind}
 use Rattle.pg_blocks.specs.Lines.{IsLine}
 use Rattle.pg_blocks.specs.Long.{has_long, open_from, CutsOff}
-use Rattle.pg_blocks.specs.Cutter.{CutterPast, IsCutterAfter, IsDrained, fed, handed, IsNextBlock, AreAllBlocks}
+use Rattle.pg_blocks.specs.Cutter.{CutterPast, IsCutterAfter, IsDrained, fed, past_handed, IsNextBlock, AreAllBlocks}
 use Rattle.pg_blocks.specs.Cutter.{HasLongLine}
-use Rattle.pg_blocks.specs.Cutter.{held}
+use Rattle.pg_blocks.specs.Cutter.{bytes_held}
 use Rattle.pg_blocks.specs.Cutter.{CutsFed, handed_early, HasLinesLeft, HasNoLineLeft}
 use Rattle.pg_blocks.specs.declared.cutter.Cutter.{Cutter}
 use Rattle.pg_blocks.proofs.CutLemmas.{numbered_front, numbered_more, numbered_append}
@@ -26,46 +26,46 @@ pub next_block : {A : Type 0} (cutter : Cutter A) (past : CutterPast) (b : Block
     → cutter.ready.items ≡ b ∷ rest → IsCutterAfter cutter past → IsNextBlock past b
 next_block cutter past b rest e s =
     let P : List BlockData → Type 0 = λ bs. AreNumbered past.file 0 (past.taken ++ bs) in
-    let Q : List BlockData → Type 0 = λ bs. CutsFed past (past.taken ++ bs) (held cutter) in
+    let Q : List BlockData → Type 0 = λ bs. CutsFed past (past.taken ++ bs) (bytes_held cutter) in
     let R : List BlockData → Type 0 = λ bs. AreNumbered past.file 0 bs in
     record {
       numbered =
           numbered_front past.file 0 (past.taken ++ b ∷ []) rest
           (subst R (sym (append_assoc past.taken (b ∷ []) rest)) (subst P e s.numbered));
-      cut = (rest, held cutter, subst Q e s.cut);
+      cut = (rest, bytes_held cutter, subst Q e s.cut);
     }
 
 drained : {A : Type 0} (cutter : Cutter A) (past : CutterPast) → IsCutterAfter cutter past → IsDrained cutter
-    → CutsFed past past.taken (held cutter) × AreNumbered past.file 0 past.taken
+    → CutsFed past past.taken (bytes_held cutter) × AreNumbered past.file 0 past.taken
 drained cutter past s d =
     let same : past.taken ++ cutter.ready.items ≡ past.taken = ap (λ bs. past.taken ++ bs) d ∙ append-nil past.taken in
-    let C : List BlockData → Type 0 = λ bs. CutsFed past bs (held cutter) in
+    let C : List BlockData → Type 0 = λ bs. CutsFed past bs (bytes_held cutter) in
     let P : List BlockData → Type 0 = λ bs. C bs × AreNumbered past.file 0 bs in
     subst P same (s.cut, s.numbered)
 
 pub finished_some : {A : Type 0} (cutter : Cutter A) (past : CutterPast) → IsCutterAfter cutter past → IsDrained cutter
-    → held cutter ≢ []
+    → bytes_held cutter ≢ []
     → AreAllBlocks
-    (handed past (Some (record { file = cutter.file; number = cutter.number; bytes = held cutter })))
+    (past_handed past (Some (record { file = cutter.file; number = cutter.number; bytes = bytes_held cutter })))
 finished_some cutter past s d ne =
     let h = drained cutter past s d in
-    let b : BlockData = record { file = cutter.file; number = cutter.number; bytes = held cutter } in
+    let b : BlockData = record { file = cutter.file; number = cutter.number; bytes = bytes_held cutter } in
     let n : cutter.number ≡ 0 + length past.taken =
     omega (arith, s.next, ap length d, length-append past.taken cutter.ready.items) in
     record {
       numbered = numbered_more past.file 0 past.taken b h.1 (sym s.file) n;
-      cut = fed_last past past.taken (held cutter) h.0 b refl ne;
+      cut = fed_last past past.taken (bytes_held cutter) h.0 b refl ne;
     }
 
 pub finished_none : {A : Type 0} (cutter : Cutter A) (past : CutterPast) → IsCutterAfter cutter past → IsDrained cutter
-    → held cutter ≡ [] → AreAllBlocks (handed past None)
+    → bytes_held cutter ≡ [] → AreAllBlocks (past_handed past None)
 finished_none cutter past s d none =
     let h = drained cutter past s d in
     let all = sym (append-nil past.taken) in
     let N : List BlockData → Type 0 = λ bs. AreNumbered past.file 0 bs in
     let I : List BlockData → Type 0 =
     λ bs. CutsBehind past.early past.end past.bytes bs (IsCut past.end past.size) in
-    record { numbered = subst N all h.1; cut = subst I all (fed_no_last past past.taken (held cutter) h.0 none) }
+    record { numbered = subst N all h.1; cut = subst I all (fed_no_last past past.taken (bytes_held cutter) h.0 none) }
 
 pub next_if_some : {A : Type 0} (cutter : Cutter A) (r : Option BlockData) (rest : List BlockData)
     → cutter.ready.items ≡ option_to_list r ++ rest
@@ -102,18 +102,18 @@ pub fed_stands : {A : Type 0} (old new : Cutter A) (past : CutterPast) (piece le
     (ready' : List BlockData) → IsCutterAfter old past
     → new.file ≡ old.file → new.size ≡ old.size → new.longest ≡ old.longest → new.end ≡ old.end
     → new.number ≡ old.number + count → new.total ≡ old.total + length piece
-    → new.line ≡ open_from old.end old.line piece → new.ready.items ≡ ready' → held new ≡ left
-    → CutsOff old.end old.size old.file old.number (held old ++ piece) old.ready.items ready' left count
+    → new.line ≡ open_from old.end old.line piece → new.ready.items ≡ ready' → bytes_held new ≡ left
+    → CutsOff old.end old.size old.file old.number (bytes_held old ++ piece) old.ready.items ready' left count
     → (HasLongLine (fed past piece) → ⊥) → IsCutterAfter new (fed past piece)
 fed_stands old new past piece left count ready' s file size longest end number total line ready rest off short =
     let blocks = off.blocks in
     let together : (past.taken ++ old.ready.items) ++ blocks ≡ past.taken ++ new.ready.items =
     append_assoc past.taken old.ready.items blocks ∙ ap (λ bs. past.taken ++ bs) (sym (ready ∙ off.added)) in
-    let C : List BlockData → Type 0 = λ bs. CutsFed (fed past piece) bs (held new) in
+    let C : List BlockData → Type 0 = λ bs. CutsFed (fed past piece) bs (bytes_held new) in
     let N : List BlockData → Type 0 = λ bs. AreNumbered past.file 0 bs in
-    let D : ℕ → Type 0 = λ e. Cuts e past.size (held old ++ piece) blocks (held new) in
-    let E : ℕ → Type 0 = λ n. Cuts old.end n (held old ++ piece) blocks (held new) in
-    let G : List ℕ → Type 0 = λ r. Cuts old.end old.size (held old ++ piece) blocks r in
+    let D : ℕ → Type 0 = λ e. Cuts e past.size (bytes_held old ++ piece) blocks (bytes_held new) in
+    let E : ℕ → Type 0 = λ n. Cuts old.end n (bytes_held old ++ piece) blocks (bytes_held new) in
+    let G : List ℕ → Type 0 = λ r. Cuts old.end old.size (bytes_held old ++ piece) blocks r in
     let H : ℕ → Type 0 = λ f. AreNumbered f (0 + length (past.taken ++ old.ready.items)) blocks in
     let I : ℕ → Type 0 = λ n. AreNumbered old.file n blocks in
     let next : old.number ≡ 0 + length (past.taken ++ old.ready.items) = omega (arith, s.next) in
@@ -125,7 +125,7 @@ fed_stands old new past piece left count ready' s file size longest end number t
       longest = s.longest ∙ sym longest;
       cut =
           subst C together
-          (fed_further past (past.taken ++ old.ready.items) (held old) s.cut piece (held new) blocks cut');
+          (fed_further past (past.taken ++ old.ready.items) (bytes_held old) s.cut piece (bytes_held new) blocks cut');
       numbered =
           subst N together
           (numbered_append past.file 0 (past.taken ++ old.ready.items) blocks s.numbered
@@ -185,12 +185,12 @@ cuts_first end size file number len at rest piece first left blocks ready ready'
 -- a cutter that handed out its next block, if there was one, is the same but for its blocks
 pub handed_stands : {A : Type 0} (old new : Cutter A) (past : CutterPast) (r : Option BlockData)
     → IsCutterAfter old past → new.file ≡ old.file → new.size ≡ old.size → new.longest ≡ old.longest → new.end ≡ old.end
-    → new.number ≡ old.number → new.total ≡ old.total → new.line ≡ old.line → held new ≡ held old
-    → old.ready.items ≡ option_to_list r ++ new.ready.items → IsCutterAfter new (handed past r)
+    → new.number ≡ old.number → new.total ≡ old.total → new.line ≡ old.line → bytes_held new ≡ bytes_held old
+    → old.ready.items ≡ option_to_list r ++ new.ready.items → IsCutterAfter new (past_handed past r)
 handed_stands old new past r s file size longest end number total line same ready =
     let all : past.taken ++ old.ready.items ≡ (past.taken ++ option_to_list r) ++ new.ready.items =
     ap (λ bs. past.taken ++ bs) ready ∙ sym (append_assoc past.taken (option_to_list r) new.ready.items) in
-    let C : List BlockData → Type 0 = λ bs. CutsFed past bs (held old) in
+    let C : List BlockData → Type 0 = λ bs. CutsFed past bs (bytes_held old) in
     let D : List ℕ → Type 0 = λ xs. CutsFed past ((past.taken ++ option_to_list r) ++ new.ready.items) xs in
     record {
       terminator = s.terminator ∙ sym end;
@@ -207,32 +207,36 @@ handed_stands old new past r s file size longest end number total line same read
 
 -- An open block, behind which nothing is ready.
 module _ {A : Type 0} (old : Cutter A) (past : CutterPast) (s : IsCutterAfter old past) (d : IsDrained old) where
-  abbrev drained_cut : CutsFed past past.taken (held old)
+  abbrev drained_cut : CutsFed past past.taken (bytes_held old)
   drained_cut = (drained old past s d).0
 
-  held_whole : past.bytes ≡ joined past.taken ++ held old
-  held_whole = fed_whole past past.taken (held old) drained_cut
+  held_whole : past.bytes ≡ joined past.taken ++ bytes_held old
+  held_whole = fed_whole past past.taken (bytes_held old) drained_cut
 
   taken_end : AllEnd past.end past.taken
-  taken_end = fed_end past past.taken (held old) drained_cut
+  taken_end = fed_end past past.taken (bytes_held old) drained_cut
 
   -- its open line is that of the file
-  held_open : old.line ≡ open_from old.end 0 (held old)
+  held_open : old.line ≡ open_from old.end 0 (bytes_held old)
   held_open =
       s.line ∙ (ap (open_from past.end 0) held_whole
-      ∙ (open_append past.end 0 (joined past.taken) (held old)
-      ∙ (ap (λ n. open_from past.end n (held old)) (blocks_open past.end past.taken taken_end)
-      ∙ ap (λ e. open_from e 0 (held old)) s.terminator)))
+      ∙ (open_append past.end 0 (joined past.taken) (bytes_held old)
+      ∙ (ap (λ n. open_from past.end n (bytes_held old)) (blocks_open past.end past.taken taken_end)
+      ∙ ap (λ e. open_from e 0 (bytes_held old)) s.terminator)))
 
-  held_length : length (held old) ≡ old.filled
+  held_length : length (bytes_held old) ≡ old.filled
   held_length = length-take-le old.filled old.rest.items old.within
 
   -- where that is all, no line ends in it
   pub no_lines : old.filled ≤ old.line → HasNoLineLeft past
   no_lines most =
-      let P : ℕ → Type 0 = λ e. IsLine e (held old) in
-      let all : length (held old) ≤ old.line = omega (arith, held_length, most) in
-      (held old, held_whole, subst P (sym s.terminator) (open_none old.end (held old) old.line held_open all))
+      let P : ℕ → Type 0 = λ e. IsLine e (bytes_held old) in
+      let all : length (bytes_held old) ≤ old.line = omega (arith, held_length, most) in (
+        bytes_held old,
+        held_whole,
+        subst P (sym s.terminator) (open_none old.end (bytes_held old) old.line held_open
+            all),
+      )
 
   -- Else its whole lines are handed out.
   module _ (less : old.line < old.filled) (bytes : List ℕ)
@@ -244,12 +248,12 @@ module _ {A : Type 0} (old : Cutter A) (past : CutterPast) (s : IsCutterAfter ol
     early_block = record { file = old.file; number = old.number; bytes = bytes }
 
     abbrev left : List ℕ
-    left = drop count (held old)
+    left = drop count (bytes_held old)
 
     abbrev now : List BlockData
     now = past.taken ++ early_block ∷ []
 
-    bytes_are : bytes ≡ take count (held old)
+    bytes_are : bytes ≡ take count (bytes_held old)
     bytes_are = front ∙ sym (take-take count old.filled old.rest.items (omega arith))
 
     early_numbered : AreNumbered past.file 0 now
@@ -261,18 +265,18 @@ module _ {A : Type 0} (old : Cutter A) (past : CutterPast) (s : IsCutterAfter ol
     early_whole : past.bytes ≡ joined now ++ left
     early_whole =
         held_whole ∙ (ap (λ xs. joined past.taken ++ xs)
-        (sym (ap (λ xs. xs ++ left) bytes_are ∙ take-append-drop count (held old)))
+        (sym (ap (λ xs. xs ++ left) bytes_are ∙ take-append-drop count (bytes_held old)))
         ∙ (sym (append_assoc (joined past.taken) bytes left)
         ∙ ap (λ xs. xs ++ left) (ap (λ xs. joined past.taken ++ xs) (sym (append-nil bytes))
         ∙ sym (flat_map-append (λ (b : BlockData). b.bytes) past.taken (early_block ∷ [])))))
 
     abbrev Parts : ℕ → Type 0
-    Parts n = EndsWith old.end (take n (held old)) × IsLine old.end (drop n (held old))
+    Parts n = EndsWith old.end (take n (bytes_held old)) × IsLine old.end (drop n (bytes_held old))
 
     parts : Parts count
     parts =
-        let n : length (held old) - old.line ≡ count = ap (λ n. n - old.line) held_length in
-        subst Parts n (open_cut old.end (held old) old.line held_open (omega (arith, held_length, less)))
+        let n : length (bytes_held old) - old.line ≡ count = ap (λ n. n - old.line) held_length in
+        subst Parts n (open_cut old.end (bytes_held old) old.line held_open (omega (arith, held_length, less)))
 
     left_line : IsLine past.end left
     left_line = let P : ℕ → Type 0 = λ e. IsLine e left in subst P (sym s.terminator) parts.1
@@ -303,10 +307,10 @@ module _ {A : Type 0} (old : Cutter A) (past : CutterPast) (s : IsCutterAfter ol
     -- the cutter goes on behind them
     pub early_stands : (new : Cutter A) → new.file ≡ old.file → new.size ≡ old.size → new.longest ≡ old.longest
         → new.end ≡ old.end → new.number ≡ old.number + 1 → new.total ≡ old.total → new.line ≡ old.line
-        → new.ready.items ≡ [] → held new ≡ left → IsCutterAfter new (handed_early past (Some early_block))
+        → new.ready.items ≡ [] → bytes_held new ≡ left → IsCutterAfter new (handed_early past (Some early_block))
     early_stands new file size longest end number total line ready same =
         let all : now ≡ now ++ new.ready.items = sym (ap (λ bs. now ++ bs) ready ∙ append-nil now) in
-        let C : List BlockData → Type 0 = λ bs. CutsFed (handed_early past (Some early_block)) bs (held new) in
+        let C : List BlockData → Type 0 = λ bs. CutsFed (handed_early past (Some early_block)) bs (bytes_held new) in
         let D : List ℕ → Type 0 = λ xs. CutsFed (handed_early past (Some early_block)) now xs in
         let N : List BlockData → Type 0 = λ bs. AreNumbered past.file 0 bs in
         record {

@@ -4,7 +4,7 @@ use Rattle.std.proofs.Common.{Result, Ok, Err}
 use Rattle.std.specs.Prelude.{OnErr}
 use Rattle.std.proofs.Props.{props}
 use Rattle.pg_blocks.specs.Blocks.{BlockData, AreNumbered, IsUnfinished}
-use Rattle.pg_blocks.specs.Cutter.{CutterPast, CutsFed, IsCutterAfter, KeepsCutter, held, room_of}
+use Rattle.pg_blocks.specs.Cutter.{CutterPast, CutsFed, IsCutterAfter, KeepsCutter, bytes_held, room_of}
 use Rattle.pg_blocks.specs.Lending.{front_stays, with_room}
 use Rattle.pg_blocks.specs.declared.cutter.Cutter.{Cutter}
 use Rattle.pg_blocks.proofs.BufferLemmas.{back_is}
@@ -13,9 +13,9 @@ use Rattle.pg_blocks.proofs.BufferLemmas.{back_is}
 pub held_stays : {A : Type 0} (old new : Cutter A) (past : CutterPast) → IsCutterAfter old past
     → new.file ≡ old.file → new.size ≡ old.size → new.longest ≡ old.longest → new.end ≡ old.end
     → new.number ≡ old.number → new.total ≡ old.total → new.line ≡ old.line
-    → new.ready.items ≡ old.ready.items → held new ≡ held old → IsCutterAfter new past
+    → new.ready.items ≡ old.ready.items → bytes_held new ≡ bytes_held old → IsCutterAfter new past
 held_stays old new past s file size longest end number total line ready same =
-    let C : List BlockData → Type 0 = λ bs. CutsFed past (past.taken ++ bs) (held old) in
+    let C : List BlockData → Type 0 = λ bs. CutsFed past (past.taken ++ bs) (bytes_held old) in
     let D : List ℕ → Type 0 = λ xs. CutsFed past (past.taken ++ new.ready.items) xs in
     let N : List BlockData → Type 0 = λ bs. AreNumbered past.file 0 (past.taken ++ bs) in
     record {

@@ -29,8 +29,8 @@ unfed end file size longest =
 abbrev pub fed : CutterPast → List ℕ → CutterPast
 fed past piece = record past { bytes = past.bytes ++ piece }
 
-abbrev pub handed : CutterPast → Option BlockData → CutterPast
-handed past block = record past { taken = past.taken ++ option_to_list block }
+abbrev pub past_handed : CutterPast → Option BlockData → CutterPast
+past_handed past block = record past { taken = past.taken ++ option_to_list block }
 
 -- the block, if there is one, was handed out early
 abbrev pub handed_early : CutterPast → Option BlockData → CutterPast
@@ -80,8 +80,8 @@ abbrev pub HasLongLineWith : CutterPast → List ℕ → Type 0
 HasLongLineWith past piece = (length past.bytes + length piece ≤ 2 ^ 62) × HasLongLine (fed past piece)
 
 -- the bytes of the open block
-abbrev pub held : {A : Type 0} → Cutter A → List ℕ
-held cutter = take cutter.filled cutter.rest.items
+abbrev pub bytes_held : {A : Type 0} → Cutter A → List ℕ
+bytes_held cutter = take cutter.filled cutter.rest.items
 
 -- what the room behind them holds
 abbrev pub room_of : {A : Type 0} → Cutter A → List ℕ
@@ -93,7 +93,7 @@ pub record IsCutterAfter {A : Type 0} (cutter : Cutter A) (past : CutterPast) : 
   pub file : past.file ≡ cutter.file
   pub size : past.size ≡ cutter.size
   pub longest : past.longest ≡ cutter.longest
-  pub cut : CutsFed past (past.taken ++ cutter.ready.items) (held cutter)
+  pub cut : CutsFed past (past.taken ++ cutter.ready.items) (bytes_held cutter)
   pub numbered : AreNumbered past.file 0 (past.taken ++ cutter.ready.items)
   pub next : cutter.number ≡ length (past.taken ++ cutter.ready.items)
   pub total : cutter.total ≡ length past.bytes
@@ -112,8 +112,8 @@ abbrev pub IsDrained : {A : Type 0} → Cutter A → Type 0
 IsDrained cutter = cutter.ready.items ≡ []
 
 -- how many finished blocks are held
-abbrev pub waiting : {A : Type 0} → Cutter A → ℕ
-waiting cutter = length cutter.ready.items
+abbrev pub blocks_ready : {A : Type 0} → Cutter A → ℕ
+blocks_ready cutter = length cutter.ready.items
 
 -- every past that stood stands, and a drained cutter is drained
 pub record KeepsCutter {A : Type 0} (old new : Cutter A) : Type 0 where

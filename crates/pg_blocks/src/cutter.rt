@@ -351,9 +351,10 @@ impl<A: Allocator + Copy> Drop for Cutter<A> {
 
 impl<A: Allocator + Copy> Cutter<A> {
     ghost use Rattle.std.specs.Borrow.{sem};
-    ghost use Rattle.pg_blocks.specs.Cutter.{CutterPast, IsCutterAfter, IsDrained, unfed, fed, handed, HasNoneLeft};
+    ghost use Rattle.pg_blocks.specs.Cutter.{CutterPast, IsCutterAfter, IsDrained, unfed, fed, past_handed};
+    ghost use Rattle.pg_blocks.specs.Cutter.{HasNoneLeft};
     ghost use Rattle.pg_blocks.specs.Cutter.{IsNextBlock, AreAllBlocks, FitsBehind, TellsWhy, FeedsPiece, KeepsCutter};
-    ghost use Rattle.pg_blocks.specs.Cutter.{waiting, room_of};
+    ghost use Rattle.pg_blocks.specs.Cutter.{blocks_ready, room_of};
     ghost use Rattle.pg_blocks.specs.Cutter.{handed_early, HasLinesLeft, HasNoLineLeft};
     ghost use Rattle.pg_blocks.specs.Lending.{LendsRoom};
 
@@ -399,8 +400,8 @@ impl<A: Allocator + Copy> Cutter<A> {
         Ok(())
     }
 
-    /// Takes the next bytes of the file as `feed` does, and with them their memory: where no byte of the open block came
-    /// yet, they become its beginning, and nothing is copied but what stands behind it.
+    /// Takes the next bytes of the file as `feed` does, and with them their memory: where no byte of the open block
+    /// came yet, they become its beginning, and nothing is copied but what stands behind it.
     pub fn feed_owned(&mut self, piece: Vec<u8, A>) -> Result<(), CutFault>
         ensures { FeedsPiece self.old self.new piece.items result }
     {
@@ -535,7 +536,7 @@ impl<A: Allocator + Copy> Cutter<A> {
     /// and what is far longer than a block is freed.
     pub fn give_back(&mut self, memory: Vec<u8, A>)
         ensures keeps { KeepsCutter self.old self.new }
-        ensures waiting { waiting self.new ≡ waiting self.old }
+        ensures waiting { blocks_ready self.new ≡ blocks_ready self.old }
         ensures room { room_of self.new ≡ room_of self.old }
     {
         let most = 2 * (self.size as usize + LINE_ROOM);
@@ -547,12 +548,12 @@ impl<A: Allocator + Copy> Cutter<A> {
     /// The next finished block. `None` comes only where no finished block is left.
     pub fn take(&mut self) -> Option<Block<A>>
         ensures stands { (past : CutterPast) → IsCutterAfter self.old past
-            → IsCutterAfter self.new (handed past result) }
+            → IsCutterAfter self.new (past_handed past result) }
         ensures next { IfSome result
             (λ block. (past : CutterPast) → IsCutterAfter self.old past → IsNextBlock past block) }
         ensures none { IfNone result (IsDrained self.new × ((past : CutterPast) → IsCutterAfter self.old past
             → HasNoneLeft past)) }
-        ensures fewer { IfSome result (λ _. waiting self.new < waiting self.old) }
+        ensures fewer { IfSome result (λ _. blocks_ready self.new < blocks_ready self.old) }
         ensures room { room_of self.new ≡ room_of self.old }
     {
         self.ready.pop_front()
@@ -602,7 +603,7 @@ impl<A: Allocator + Copy> Cutter<A> {
     /// `feed`.
     pub fn finish(self) -> Option<Block<A>>
         requires { IsDrained self }
-        ensures { (past : CutterPast) → IsCutterAfter self past → AreAllBlocks (handed past result) }
+        ensures { (past : CutterPast) → IsCutterAfter self past → AreAllBlocks (past_handed past result) }
     {
         let Cutter {
             alloc: _,

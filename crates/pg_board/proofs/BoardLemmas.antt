@@ -18,7 +18,7 @@ use Rattle.pg_board.specs.declared.draws.TokenView.{TokenView}
 use Rattle.pg_board.specs.Counts.{total, times, once_below}
 use Rattle.pg_board.specs.Draws.{draws, all_drawn, spent_count, IsLawful, IsDraw}
 use Rattle.pg_board.specs.Board.{SeatView}
-use Rattle.pg_board.specs.BoardRule.{token_view, no_seats, seats_of, first_drawn, Keeps, KeepsBoard, DrawsOne}
+use Rattle.pg_board.specs.BoardRule.{token_view, no_seats, seats_of, first_drawn, FollowsRule, KeepsBoard, DrawsOne}
 use Rattle.pg_board.proofs.CountLemmas.{total_set, total-append, total_one, total_flat, length_flat, total_le}
 use Rattle.pg_board.proofs.CountLemmas.{total_empty, total_replicate, total_split, length_split, once_next, min_below}
 use Rattle.pg_board.proofs.CountLemmas.{min_above}
@@ -54,7 +54,7 @@ over_tokens : (f : Draws → ℕ) (views : List TokenView)
     → total f (seats_of views) ≡ total (λ (v : TokenView). total f v.seats) views
 over_tokens f views = total_flat f (λ (v : TokenView). v.seats) views
 
-sums_of : (size : BoardSize) (word : ℕ) (views : List TokenView) → Keeps size word views → Sums size word views
+sums_of : (size : BoardSize) (word : ℕ) (views : List TokenView) → FollowsRule size word views → Sums size word views
 sums_of size word views h =
     let counts = count_drawn (seats_of views) ∙ over_tokens (λ (d : Draws). length d.drawn) views in
     let spent = over_tokens (λ (d : Draws). if d.spent then 1 else 0) views in
@@ -68,7 +68,7 @@ sums_of size word views h =
 
 keeps_of : (size : BoardSize) (word : ℕ) (views : List TokenView) → (size.limit < 2 ^ 32) × (size.seats < 2 ^ 32)
     → ((at : ℕ) (v : TokenView) → get_elem? views at ≡ some v → v.seats ≢ [] → v.size ≡ size) → Sums size word views
-    → Keeps size word views
+    → FollowsRule size word views
 keeps_of size word views fits sized s =
     let counts = count_drawn (seats_of views) ∙ over_tokens (λ (d : Draws). length d.drawn) views in
     let spent = over_tokens (λ (d : Draws). if d.spent then 1 else 0) views in
@@ -134,12 +134,12 @@ begins size limit seats =
 
 -- one seat's draws change, and the sums with them
 changes : (size : BoardSize) (n : ℕ) (views : List TokenView) (id : ℕ) (v : TokenView) (d e : Draws)
-    → Keeps size n views → get_elem? views id ≡ some v → v.seats ≡ d ∷ []
+    → FollowsRule size n views → get_elem? views id ≡ some v → v.seats ≡ d ∷ []
     → ((x : ℕ) → times x e.drawn + once_below x (min n size.limit) ≡ times x d.drawn + once_below x
     (min (n + 1) size.limit))
     → length e.drawn + min n size.limit ≡ length d.drawn + min (n + 1) size.limit
     → length e.drawn + spent_count (e ∷ []) ≡ length d.drawn + spent_count (d ∷ []) + 1
-    → Keeps size (n + 1) (set views id (token_view v.size (e ∷ [])))
+    → FollowsRule size (n + 1) (set views id (token_view v.size (e ∷ [])))
 changes size n views id v d e h at one once longer count =
     let w : TokenView = token_view v.size (e ∷ []) in let s = sums_of size n views h in
     let some_seat : v.seats ≢ [] = λ z. let l : ◌≡◌ {A = ℕ} 1 0 =
@@ -161,8 +161,8 @@ changes size n views id v d e h at one once longer count =
 
 -- the number n is drawn
 draws_number : (size : BoardSize) (n : ℕ) (views : List TokenView) (id : ℕ) (v : TokenView) (drawn : List ℕ)
-    → Keeps size n views → get_elem? views id ≡ some v → v.seats ≡ draws drawn false ∷ [] → n < size.limit
-    → Keeps size (n + 1) (set views id (token_view v.size (draws (drawn ++ n ∷ []) false ∷ [])))
+    → FollowsRule size n views → get_elem? views id ≡ some v → v.seats ≡ draws drawn false ∷ [] → n < size.limit
+    → FollowsRule size (n + 1) (set views id (token_view v.size (draws (drawn ++ n ∷ []) false ∷ [])))
 draws_number size n views id v drawn h at one low =
     let m = min_below n size.limit low in let longer = length-append drawn (n ∷ []) in
     changes size n views id v (draws drawn false) (draws (drawn ++ n ∷ []) false) h at one
@@ -174,8 +174,8 @@ draws_number size n views id v drawn h at one low =
 
 -- no number is left, and one seat more is spent
 draws_none : (size : BoardSize) (n : ℕ) (views : List TokenView) (id : ℕ) (v : TokenView) (drawn : List ℕ)
-    → Keeps size n views → get_elem? views id ≡ some v → v.seats ≡ draws drawn false ∷ [] → size.limit ≤ n
-    → Keeps size (n + 1) (set views id (token_view v.size (draws drawn true ∷ [])))
+    → FollowsRule size n views → get_elem? views id ≡ some v → v.seats ≡ draws drawn false ∷ [] → size.limit ≤ n
+    → FollowsRule size (n + 1) (set views id (token_view v.size (draws drawn true ∷ [])))
 draws_none size n views id v drawn h at one high =
     let m = min_above n size.limit high in
     changes size n views id v (draws drawn false) (draws drawn true) h at one
@@ -191,7 +191,8 @@ spent_few (d ∷ seats) = let r = spent_few seats in let b : (if d.spent then 1 
     one true = omega arith
     one false = omega arith
 
-pub word_low : (size : BoardSize) (n : ℕ) (views : List TokenView) → Keeps size n views → n ≤ size.limit + size.seats
+pub word_low : (size : BoardSize) (n : ℕ) (views : List TokenView) → FollowsRule size n views
+    → n ≤ size.limit + size.seats
 word_low size n views h = let s = sums_of size n views h in let a = s.counted in let b = s.lengths in let c =
     s.all_seats in let d = total_le spent_in seats_in (λ v. spent_few v.seats) views in omega arith
 
@@ -219,7 +220,8 @@ around (x ∷ views) (suc id) v e =
     )
 
 is_draw : (size : BoardSize) (n : ℕ) (views : List TokenView) (id : ℕ) (v : TokenView) (d e : Draws)
-    → Keeps size n views → Keeps size (n + 1) (set views id (token_view v.size (e ∷ []))) → get_elem? views id ≡ some v
+    → FollowsRule size n views → FollowsRule size (n + 1) (set views id (token_view v.size (e ∷ [])))
+    → get_elem? views id ≡ some v
     → v.seats ≡ d ∷ [] → IsDraw size n d e
 is_draw size n views id v d e h k at one =
     let r = around views id v at in
@@ -236,7 +238,7 @@ small n h = omega arith
 
 module _ (size : BoardSize) (slots id : ℕ) (me : Me (Unit {0}) TokenView)
     (one : me.0.seats ≡ draws (first_drawn me.0.seats) false ∷ []) (s : State (Unit {0}) TokenView)
-    (n : ℕ) (words : s.words ≡ n ∷ []) (h : Keeps size n s.views) (at : get_elem? s.views id ≡ some me.0) where
+    (n : ℕ) (words : s.words ≡ n ∷ []) (h : FollowsRule size n s.views) (at : get_elem? s.views id ≡ some me.0) where
   abbrev drawn : List ℕ
   drawn = first_drawn me.0.seats
 
@@ -367,7 +369,7 @@ abbrev pub Ends : BoardSize → List Draws → ℕ → Type 0
 Ends size seats r = ((x : ℕ) → times x (all_drawn seats) ≡ once_below x (min r size.limit))
     × (0 < spent_count seats → size.limit ≤ r)
 
-lawful_ends : (size : BoardSize) (n : ℕ) (views : List TokenView) (id : ℕ) (v : TokenView) → Keeps size n views
+lawful_ends : (size : BoardSize) (n : ℕ) (views : List TokenView) (id : ℕ) (v : TokenView) → FollowsRule size n views
     → get_elem? views id ≡ some v → length v.seats ≡ size.seats → Ends size v.seats n
 lawful_ends size n views id v h at all =
     let s = sums_of size n views h in let whole : total seats_in views ≡ seats_in v = s.all_seats ∙ sym all in

@@ -13,7 +13,7 @@ use Rattle.pg_board.specs.declared.puts.Entry.{Entry}
 use Rattle.pg_board.specs.declared.puts.Puts.{Puts}
 use Rattle.pg_board.specs.Counts.{total, once_below}
 use Rattle.pg_board.specs.Merge.{given_to, IsMerge}
-use Rattle.pg_board.specs.TrayRule.{put_by, values_of, lists_of, passes_numbered}
+use Rattle.pg_board.specs.TrayRule.{put_by, values_in, lists_of, passes_numbered}
 use Rattle.pg_board.proofs.CountLemmas.{total_at}
 
 pub all_weaker : {X : Type 0} (P Q : X → Type 0) (xs : List X) → ((x : X) → P x → Q x) → AllByRecursion P xs
@@ -159,7 +159,8 @@ module _ {T : Type 0} where
   past_end (p ∷ ps) zero high = absurd (omega arith)
   past_end (p ∷ ps) (suc k) high = past_end ps k (omega arith)
 
-  values_given : (ps : List (Puts T)) (es : List (Entry T)) → map (λ (g : ℕ × T). g.1) (map (give ps) es) ≡ values_of es
+  values_given : (ps : List (Puts T)) (es : List (Entry T)) → map (λ (g : ℕ × T). g.1) (map (give ps) es)
+      ≡ values_in es
   values_given ps [] = refl
   values_given ps (e ∷ es) = ap (λ (l : List T). e.value ∷ l) (values_given ps es)
 
@@ -167,7 +168,7 @@ module _ {T : Type 0} where
   pub merges : (ps : List (Puts T)) (made : ℕ) (whole : List (Entry T))
       → ((n : ℕ) → passes_numbered n ps ≡ once_below n made) → AllByRecursion (λ e. e.pass < made) whole
       → AllByRecursion (λ p. p.values ≡ put_by p.pass whole) ps
-      → IsMerge (lists_of ps) (values_of whole)
+      → IsMerge (lists_of ps) (values_in whole)
   merges ps made whole each numbered put = record {
     given = map (give ps) whole;
     is_whole = values_given ps whole;

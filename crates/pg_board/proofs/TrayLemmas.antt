@@ -14,7 +14,7 @@ use Rattle.pg_board.specs.declared.puts.Puts.{Puts}
 use Rattle.pg_board.specs.declared.puts.PassView.{PassView}
 use Rattle.pg_board.specs.Counts.{total, once_below}
 use Rattle.pg_board.specs.Merge.{IsMerge}
-use Rattle.pg_board.specs.TrayRule.{puts, pass_view, put_by, values_of, lists_of, first_values, passes_numbered}
+use Rattle.pg_board.specs.TrayRule.{puts, pass_view, put_by, values_in, lists_of, first_values, passes_numbered}
 use Rattle.pg_board.specs.TrayRule.{Knows, KeepsTray, PutOne, TakeOne, HandOutOne, IsWholeMerge}
 use Rattle.pg_board.proofs.CountLemmas.{total_set, total-append, total_at, total_two, total_one, total_empty, once_next}
 use Rattle.pg_board.proofs.MergeLemmas.{all_weaker, merges}
@@ -276,7 +276,7 @@ module _ {T : Type 0} where
       let each : (n : ℕ) → passes_numbered n v.passes ≡ once_below n h.made =
       λ n. sym (total_one passes_in (numbered_in n) views at v here
       (λ j u e z. total_empty (λ (p : Puts T). if p.pass == n then 1 else 0) u.passes z) whole) ∙ h.each_pass n in
-      subst (λ (l : List (Entry T)). IsMerge (lists_of v.passes) (values_of (l ++ items))) (sym know.0)
+      subst (λ (l : List (Entry T)). IsMerge (lists_of v.passes) (values_in (l ++ items))) (sym know.0)
       (merges v.passes h.made (h.taken ++ items) each h.numbered mine.putters)
 
   pub hands_out : (at : ℕ) (v : PassView T) → v.takers ≡ 1 → v.made ≡ length v.passes
@@ -284,15 +284,15 @@ module _ {T : Type 0} where
   hands_out at v one all x items views h here =
       let t = takes_one at v one x items views h here in
       let value : Entry T → T = λ e. e.value in
-      let same : values_of (v.taken ++ (x ∷ items)) ≡ (values_of v.taken ++ x.value ∷ []) ++ values_of items =
+      let same : values_in (v.taken ++ (x ∷ items)) ≡ (values_in v.taken ++ x.value ∷ []) ++ values_in items =
       map-append value v.taken (x ∷ items)
-      ∙ sym (append_assoc (values_of v.taken) (x.value ∷ []) (values_of items)) in (
+      ∙ sym (append_assoc (values_in v.taken) (x.value ∷ []) (values_in items)) in (
         t.0,
         t.1,
         (
           t.2,
           (
-            values_of items,
+            values_in items,
             subst (λ (l : List T). IsMerge (lists_of v.passes) l) same
                 (learns at v one all (x ∷ items) views h here),
           ),

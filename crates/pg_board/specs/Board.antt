@@ -21,8 +21,8 @@ pub record SeatView : Type 0 where
 abbrev pub board_view : TableId → BoardSize → BoardView
 board_view table size = record { table = table; limit = size.limit; seats = size.seats }
 
-abbrev pub size_of : BoardView → BoardSize
-size_of b = record { limit = b.limit; seats = b.seats }
+abbrev pub board_size : BoardView → BoardSize
+board_size b = record { limit = b.limit; seats = b.seats }
 
 abbrev pub seat_view : BoardView → List ℕ → Bool → SeatView
 seat_view board drawn spent = record { board = board; drawn = drawn; spent = spent }
@@ -55,9 +55,9 @@ HasDrawn old new k = (old.spent ≡ false) × (new.spent ≡ false) × (new.draw
 
 -- the seat's draw of this number is one draw of the board
 abbrev pub IsDrawOf : BoardView → SeatView → SeatView → ℕ → Type 0
-IsDrawOf b old new k = IsDraw (size_of b) k (draws old.drawn false) (draws new.drawn false)
+IsDrawOf b old new k = IsDraw (board_size b) k (draws old.drawn false) (draws new.drawn false)
 
 -- in one draw of the board, whose word was past the limit, the seat was told that no number is left
 abbrev pub IsToldNone : BoardView → SeatView → SeatView → Type 0
 IsToldNone b old new =
-    (word : ℕ) × (b.limit ≤ word) × IsDraw (size_of b) word (draws old.drawn false) (draws new.drawn true)
+    (word : ℕ) × (b.limit ≤ word) × IsDraw (board_size b) word (draws old.drawn false) (draws new.drawn true)

@@ -26,7 +26,7 @@ first_drawn (d ∷ ds) = d.drawn
 
 -- The draws of all seats are lawful, as many numbers were drawn as stand below the word and the limit, and each token
 -- that stands for a seat knows the board's size.
-pub record Keeps (size : BoardSize) (word : ℕ) (views : List TokenView) : Type 0 where
+pub record FollowsRule (size : BoardSize) (word : ℕ) (views : List TokenView) : Type 0 where
   pub fits : (size.limit < 2 ^ 32) × (size.seats < 2 ^ 32)
   pub lawful : IsLawful size word (seats_of views)
   pub lengths : length (all_drawn (seats_of views)) ≡ min word size.limit
@@ -34,7 +34,7 @@ pub record Keeps (size : BoardSize) (word : ℕ) (views : List TokenView) : Type
 
 -- the board has one word, and keeps its rule
 abbrev pub KeepsBoard : BoardSize → State (Unit {0}) TokenView → Type 0
-KeepsBoard size s = (word : ℕ) × (s.words ≡ word ∷ []) × Keeps size word s.views
+KeepsBoard size s = (word : ℕ) × (s.words ≡ word ∷ []) × FollowsRule size word s.views
 
 -- what a draw tells: the seat drew the number found, if that is below the limit, and else the seat is spent
 abbrev pub DrawsOne : Step (Unit {0}) → Me (Unit {0}) TokenView → ℕ → Me (Unit {0}) TokenView → Type 0

@@ -21,8 +21,8 @@ module _ {T : Type 0} where
   put_by p [] = []
   put_by p (e ∷ entries) = if e.pass == p then e.value ∷ put_by p entries else put_by p entries
 
-  abbrev pub values_of : List (Entry T) → List T
-  values_of entries = map (λ e. e.value) entries
+  abbrev pub values_in : List (Entry T) → List T
+  values_in entries = map (λ e. e.value) entries
 
   -- what each of the passes put
   abbrev pub lists_of : List (Puts T) → List (List T)
@@ -65,8 +65,8 @@ module _ {T : Type 0} where
 
   -- what is told where a value is handed out: what was taken goes on to be a merge of all puts
   abbrev pub HandOutOne : PassView T → Entry T → PassView T → Type 0
-  HandOutOne v e w = TakeOne v e w × BeginsMerge (lists_of v.passes) (values_of v.taken ++ e.value ∷ [])
+  HandOutOne v e w = TakeOne v e w × BeginsMerge (lists_of v.passes) (values_in v.taken ++ e.value ∷ [])
 
   -- what was taken, and then what is held, is a merge of all puts
   abbrev pub IsWholeMerge : PassView T → List (Entry T) → Type 0
-  IsWholeMerge v items = IsMerge (lists_of v.passes) (values_of (v.taken ++ items))
+  IsWholeMerge v items = IsMerge (lists_of v.passes) (values_in (v.taken ++ items))

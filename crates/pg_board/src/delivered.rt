@@ -21,11 +21,11 @@ pub struct TrayRest<T, A: Allocator = Global> {
 impl<T, A: Allocator> Model for TrayRest<T, A> {
     ghost use Rattle.std.specs.Prelude.{◌≡◌, None, length};
     ghost use Rattle.pg_board.specs.Tray.{TrayRestView, delivered};
-    ghost use Rattle.pg_board.specs.TrayRule.{lists_of, values_of};
+    ghost use Rattle.pg_board.specs.TrayRule.{lists_of, values_in};
 
     ghost Value = { TrayRestView T };
 
-    ghost view = { λ d. delivered (lists_of d.ticket.me.view.client.passes) (values_of d.ticket.me.view.client.taken) };
+    ghost view = { λ d. delivered (lists_of d.ticket.me.view.client.passes) (values_in d.ticket.me.view.client.taken) };
 
     ghost invariant = { λ d. (d.ticket.web ≡ d.queue.web) × (d.ticket.heap ≡ d.queue.heap)
         × (d.ticket.me.hand ≡ None) × (d.ticket.me.spare ≡ None) × (d.ticket.me.view.client.takers ≡ 1)

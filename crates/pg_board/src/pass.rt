@@ -56,12 +56,12 @@ pub struct TakePass<T, A: Allocator = Global> {
 impl<T, A: Allocator> Model for TakePass<T, A> {
     ghost use Rattle.std.specs.Prelude.{◌≡◌, None, []};
     ghost use Rattle.pg_board.specs.Tray.{TakeView, take_view};
-    ghost use Rattle.pg_board.specs.TrayRule.{values_of};
+    ghost use Rattle.pg_board.specs.TrayRule.{values_in};
 
     ghost Value = { TakeView T A };
 
     ghost view = { λ p. take_view record { web = p.ticket.web; heap = p.ticket.heap }
-        p.ticket.me.view.client.made (values_of p.ticket.me.view.client.taken) };
+        p.ticket.me.view.client.made (values_in p.ticket.me.view.client.taken) };
 
     ghost invariant = { λ p. (p.ticket.me.hand ≡ None) × (p.ticket.me.spare ≡ None)
         × (p.ticket.me.view.client.takers ≡ 1) × (p.ticket.me.view.client.passes ≡ []) };

@@ -44,22 +44,22 @@ abbrev pub punct : Bytes
 punct n = graph n && not (alnum n)
 
 -- this set where the name is this one, else what another name gives
-abbrev pub named : List ℕ → List ℕ → Bytes → Option Bytes → Option Bytes
-named name is s other = if pointwise nat_eq name is then Some s else other
+abbrev pub class_or : List ℕ → List ℕ → Bytes → Option Bytes → Option Bytes
+class_or name is s other = if pointwise nat_eq name is then Some s else other
 
 -- the set of the class of a name, and `None` for every other name
 abbrev pub class : List ℕ → Option Bytes
 class name =
-    named name (codes "upper") upper
-    (named name (codes "lower") lower
-    (named name (codes "alpha") alpha
-    (named name (codes "digit") digit
-    (named name (codes "alnum") alnum
-    (named name (codes "xdigit") xdigit
-    (named name (codes "blank") blank
-    (named name (codes "space") space
-    (named name (codes "cntrl") cntrl
-    (named name (codes "graph") graph
-    (named name (codes "print") print
-    (named name (codes "punct") punct
+    class_or name (codes "upper") upper
+    (class_or name (codes "lower") lower
+    (class_or name (codes "alpha") alpha
+    (class_or name (codes "digit") digit
+    (class_or name (codes "alnum") alnum
+    (class_or name (codes "xdigit") xdigit
+    (class_or name (codes "blank") blank
+    (class_or name (codes "space") space
+    (class_or name (codes "cntrl") cntrl
+    (class_or name (codes "graph") graph
+    (class_or name (codes "print") print
+    (class_or name (codes "punct") punct
     None)))))))))))

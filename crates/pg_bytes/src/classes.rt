@@ -1,7 +1,7 @@
 //! The character classes of the C locale.
 ghost use Rattle.std.specs.Prelude.{◌≡◌, None, codes, option_map};
 ghost use Rattle.pg_bytes.specs.Sets.{between, union, one};
-ghost use Rattle.pg_bytes.specs.Classes.{class, named, alpha, digit, alnum, graph, print, punct, xdigit};
+ghost use Rattle.pg_bytes.specs.Classes.{class, class_or, alpha, digit, alnum, graph, print, punct, xdigit};
 ghost use Rattle.pg_bytes.specs.Classes.{blank, space, cntrl};
 ghost use Rattle.pg_bytes.specs.ByteSets.{bytes};
 
@@ -62,12 +62,12 @@ fn cntrl() -> ByteSet
 /// `punct`. `None` for every other name.
 fn class_beyond_alnum(name: &[u8]) -> Option<ByteSet>
     ensures { option_map bytes result ≡
-        named name.now (codes "blank") blank
-        (named name.now (codes "space") space
-        (named name.now (codes "cntrl") cntrl
-        (named name.now (codes "graph") graph
-        (named name.now (codes "print") print
-        (named name.now (codes "punct") punct None))))) }
+        class_or name.now (codes "blank") blank
+        (class_or name.now (codes "space") space
+        (class_or name.now (codes "cntrl") cntrl
+        (class_or name.now (codes "graph") graph
+        (class_or name.now (codes "print") print
+        (class_or name.now (codes "punct") punct None))))) }
 {
     if name == b"blank".as_slice() {
         Some(blank())

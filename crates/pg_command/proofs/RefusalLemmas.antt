@@ -7,7 +7,7 @@ use Rattle.pg_files.specs.Given.{FileOutcome}
 use Rattle.pg_base.specs.Sink.{Stream}
 use Rattle.std.specs.Prelude.{List}
 use Rattle.pg_words.specs.Asks.{Asks}
-use Rattle.pg_words.specs.Gives.{IsFault}
+use Rattle.pg_words.specs.Gives.{IsWordsFault}
 use Rattle.pg_words.specs.declared.words.WordsFault.{WordsFault}
 use Rattle.pg_words.specs.declared.words.WordsFault.TheVariants.{Refused, OutOfMemory as NoMemoryForWords}
 use Rattle.pg_words.specs.declared.words.WordsFault.TheVariants.{Usage as UsageOfWords}
@@ -16,7 +16,7 @@ use Rattle.pg_report.specs.Told.{line_of}
 use Rattle.pg_request.specs.declared.fault.Fault.TheVariants.{OutOfMemory}
 
 pub refusal_told : {T : Type 0} (tells : Type 0) (tree : Tree) (terminal : Bool) (past : List FileOutcome)
-    (out err err' : Stream) (answer : Result ℕ T) (fault : WordsFault) (asked_for : Asks) → IsFault asked_for fault
+    (out err err' : Stream) (answer : Result ℕ T) (fault : WordsFault) (asked_for : Asks) → IsWordsFault asked_for fault
     → TellsOfWords fault err err' → IsErr answer
     → Does tells tree terminal asked_for past past out out err err' answer
     ⊎ RefusesWords (line_of OutOfMemory) past past out out err err' answer

@@ -8,7 +8,7 @@ use Rattle.std.proofs.lemmas.Bool.{false≢true}
 use Rattle.std.proofs.lemmas.List.{reverse-append, map-append}
 use Rattle.std.proofs.Math.Logic.{∥∥₁_map}
 use Rattle.pg_base.specs.Entries.{Left}
-use Rattle.pg_walk.specs.Answers.{Answers, Text}
+use Rattle.pg_walk.specs.Answers.{Answers, Path}
 use Rattle.pg_walk.specs.Scopes.{Scope}
 use Rattle.pg_walk.specs.Items.{Found, File as AFile, Fault, found, path_in}
 use Rattle.pg_walk.specs.Left.{BeginsWalk, HasGiven, Spot, shown as found_in}
@@ -16,7 +16,7 @@ use Rattle.pg_walk.specs.declared.item.Item.{Item}
 use Rattle.pg_files.specs.Given.{FileOutcome, NoFile, File, is_reading, gave_bytes, gave_end}
 use Rattle.pg_files.specs.Given.{AreGiven, MaySpare, is_output, name_of, names_in, shown_name}
 use Rattle.pg_files.specs.Asking.{ReadGives, TakesBuffered, read_given}
-use Rattle.pg_files.specs.Listed.{asked_for, file_paths, of_items, shown, AreOpened, AreSpared}
+use Rattle.pg_files.specs.Listed.{asked_for, file_paths, of_items, under_name, AreOpened, AreSpared}
 use Rattle.pg_files.specs.Listed.{Sought, given_by, sought, Reaches}
 use Rattle.pg_files.specs.declared.files.Step.{Step}
 
@@ -205,7 +205,7 @@ abbrev behind_first : List (List ℕ) → List (List ℕ)
 behind_first [] = []
 behind_first (x ∷ xs) = xs
 
-name_shown : (input : List ℕ) (g : FileOutcome) → name_of (shown input g) ≡ shown_name input (name_of g)
+name_shown : (input : List ℕ) (g : FileOutcome) → name_of (under_name input g) ≡ shown_name input (name_of g)
 name_shown input (NoFile path cause) = refl
 name_shown input (File path bytes ending) = refl
 
@@ -271,7 +271,7 @@ module _ (so_far : List Found) where
         subst (λ items. AreSpared spares items past') (sym more) (spare_by spares f step past past' reaches are)
 
 -- The walk goes on in the same tree.
-module _ {X : Type 0} (tells : X → Type 0) (answers : X → Answers) (ops : List Text) (tree tree' : X)
+module _ {X : Type 0} (tells : X → Type 0) (answers : X → Answers) (ops : List Path) (tree tree' : X)
     (scope scope' : Scope) (tree_is : tree' ≡ tree) (scope_is : scope' ≡ scope) where
   pub same_given : (items : List Found) (spots : List Spot) →
       HasGiven (tells tree) (answers tree) ops scope items spots →
@@ -321,10 +321,10 @@ pub one_more : {A : Type 0} (items : List (Item A)) (item : Item A) →
 one_more items item = map-append found items (item ∷ [])
 
 -- what nothing was asked of
-pub none_asked : {A : Type 0} (P : List Text → List Found → Type 0) (ops ops' : List Text) (items : List (Item A)) →
+pub none_asked : {A : Type 0} (P : List Path → List Found → Type 0) (ops ops' : List Path) (items : List (Item A)) →
     ops' ≡ ops → items ≡ [] → P ops [] → P ops' (map found items)
 none_asked P ops ops' items e f h =
-    let Q : List Text → Type 0 = λ o. P o [] in
+    let Q : List Path → Type 0 = λ o. P o [] in
     let R : List Found → Type 0 = λ i. P ops' i in
     subst R (sym (ap (map found) f)) (subst Q (sym e) h)
 

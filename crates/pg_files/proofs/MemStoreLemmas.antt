@@ -3,7 +3,7 @@ use Rattle.std.proofs.Common.{◌≡◌, ℕ, ◌<◌, List, [], ◌∷◌, ◌+
 use Rattle.std.proofs.Common.{slice_get, map, length, refl, sym, ap, ◌∙◌, arith, length-append}
 use Rattle.std.proofs.lemmas.Option.{slice_get-map, slice_get-get_or}
 use Rattle.std.proofs.lemmas.List.{get_or_append_left}
-use Rattle.pg_files.specs.MemStore.{stored, left_of, behind}
+use Rattle.pg_files.specs.MemStore.{stored_file, left_of, content_behind}
 use Rattle.pg_files.specs.declared.mem_store.MemFile.{MemFile}
 
 -- what is added stands behind what was there
@@ -16,9 +16,9 @@ same_place (x ∷ xs) ys k within =
 -- files that are added leave the open one as it is
 pub left_added : (xs ys more : List MemFile) → ys ≡ xs ++ more → (place : Option ℕ) (at : ℕ)
     → ((k : ℕ) → place ≡ Some k → k < length xs)
-    → left_of (map stored ys) place at ≡ left_of (map stored xs) place at
+    → left_of (map stored_file ys) place at ≡ left_of (map stored_file xs) place at
 left_added xs ys more e None at within = refl
 left_added xs ys more e (Some k) at within =
     let same : slice_get ys k ≡ slice_get xs k = ap (λ zs. slice_get zs k) e ∙ same_place xs more k (within k refl) in
-    ap (option_map (λ f. behind at f.1))
-    (slice_get-map stored ys k ∙ ap (option_map stored) same ∙ sym (slice_get-map stored xs k))
+    ap (option_map (λ f. content_behind at f.1))
+    (slice_get-map stored_file ys k ∙ ap (option_map stored_file) same ∙ sym (slice_get-map stored_file xs k))

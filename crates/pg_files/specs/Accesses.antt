@@ -20,12 +20,12 @@ newest_of None earlier = []
 newest_of (Some access) earlier = given_of access ∷ earlier
 
 -- an end was met, or a failure, which stays; where there was no file nothing changes
-abbrev pub ended : Bool → Reading → Reading
-ended failed (Refused cause) = Refused cause
-ended failed Unfinished = if failed then Broken else Finished
-ended failed Finished = if failed then Broken else Finished
-ended failed Broken = Broken
+abbrev pub reading_ended : Bool → Reading → Reading
+reading_ended failed (Refused cause) = Refused cause
+reading_ended failed Unfinished = if failed then Broken else Finished
+reading_ended failed Finished = if failed then Broken else Finished
+reading_ended failed Broken = Broken
 
 -- The earlier accesses stand in their order, and then the newest; without a newest there is none.
-abbrev pub past_of : List Access → Option Access → List FileOutcome
-past_of earlier newest = newest_of newest (reverse (map given_of earlier))
+abbrev pub outcomes_of : List Access → Option Access → List FileOutcome
+outcomes_of earlier newest = newest_of newest (reverse (map given_of earlier))

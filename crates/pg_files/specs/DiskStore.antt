@@ -31,15 +31,15 @@ pub record IsUnopened (store : DiskData) : Type 0 where
 abbrev pub opened_by : List ℕ → SourceKind
 opened_by path = if pointwise nat_eq path (codes "-") then StandardInput else AFile
 
-abbrev pub opened : {I F : Type 0} → Source I F → SourceKind
-opened Closed = Nothing
-opened (Standard input) = StandardInput
-opened (Open file) = AFile
-opened (Whole file given) = AWholeFile
+abbrev pub source_kind : {I F : Type 0} → Source I F → SourceKind
+source_kind Closed = Nothing
+source_kind (Standard input) = StandardInput
+source_kind (Open file) = AFile
+source_kind (Whole file given) = AWholeFile
 
 -- what a source has left, by what its readers have left
-abbrev pub left_of : {I F : Type 0} → (I → Option (List ℕ)) → (F → Option (List ℕ)) → Source I F → Option (List ℕ)
-left_of of_input of_file Closed = None
-left_of of_input of_file (Standard input) = of_input input
-left_of of_input of_file (Open file) = of_file file
-left_of of_input of_file (Whole file given) = Some (drop given file.bytes.items)
+abbrev pub disk_left : {I F : Type 0} → (I → Option (List ℕ)) → (F → Option (List ℕ)) → Source I F → Option (List ℕ)
+disk_left of_input of_file Closed = None
+disk_left of_input of_file (Standard input) = of_input input
+disk_left of_input of_file (Open file) = of_file file
+disk_left of_input of_file (Whole file given) = Some (drop given file.bytes.items)

@@ -84,17 +84,17 @@ gave_bytes more (NoFile name cause ∷ given) = NoFile name cause ∷ given
 gave_bytes more (File name bytes ending ∷ given) = File name (bytes ++ more) ending ∷ given
 
 -- how a file ends whose end was met, or whose reading failed: what failed once stays so
-abbrev pub ending_after : Bool → Ending → Ending
-ending_after failed Running = if failed then Failed else Ended
-ending_after failed Ended = if failed then Failed else Ended
-ending_after failed Failed = Failed
-ending_after failed Left = if failed then Failed else Ended
+abbrev pub ending_of_file : Bool → Ending → Ending
+ending_of_file failed Running = if failed then Failed else Ended
+ending_of_file failed Ended = if failed then Failed else Ended
+ending_of_file failed Failed = Failed
+ending_of_file failed Left = if failed then Failed else Ended
 
 -- the newest file's end was met, or its reading failed
 abbrev pub gave_end : Bool → List FileOutcome → List FileOutcome
 gave_end failed [] = []
 gave_end failed (NoFile name cause ∷ given) = NoFile name cause ∷ given
-gave_end failed (File name bytes ending ∷ given) = File name bytes (ending_after failed ending) ∷ given
+gave_end failed (File name bytes ending ∷ given) = File name bytes (ending_of_file failed ending) ∷ given
 
 -- how many files were opened
 abbrev pub files_given : List FileOutcome → ℕ

@@ -2,7 +2,7 @@
 use Rattle.std.specs.Prelude.{◌≡◌, ◌⊎◌, Bool, false, List, [], ◌∷◌, map, length, take, drop, reverse}
 use Rattle.std.specs.Prelude.{ℕ}
 use Rattle.std.specs.List.{list_any}
-use Rattle.pg_walk.specs.Answers.{Text}
+use Rattle.pg_walk.specs.Answers.{Path}
 use Rattle.pg_walk.specs.Scopes.{Scope}
 use Rattle.pg_walk.specs.Items.{Found, File as AFile, Fault, found}
 use Rattle.pg_walk.specs.declared.item.Item.{Item}
@@ -13,9 +13,9 @@ use Rattle.pg_files.specs.declared.files.Step.{Step}
 use Rattle.pg_files.specs.declared.files.Step.TheVariants.{File as NextFile, Miss as NextMiss}
 
 -- what a path gave, under the name that it is called by
-abbrev pub shown : (input : List ℕ) → FileOutcome → FileOutcome
-shown input (NoFile path cause) = NoFile (shown_name input path) cause
-shown input (File path bytes ending) = File (shown_name input path) bytes ending
+abbrev pub under_name : (input : List ℕ) → FileOutcome → FileOutcome
+under_name input (NoFile path cause) = NoFile (shown_name input path) cause
+under_name input (File path bytes ending) = File (shown_name input path) bytes ending
 
 -- the items that were asked for, the newest first
 abbrev pub asked_for : {A : Type 0} → List (Item A) → List Found
@@ -27,7 +27,7 @@ abbrev pub given_by : (input : List ℕ) → List Found → List FileOutcome →
 given_by input [] past = []
 given_by input (Fault path cause ∷ items) past = NoFile (shown_name input path) cause ∷ given_by input items past
 given_by input (AFile path ∷ items) [] = []
-given_by input (AFile path ∷ items) (g ∷ past) = shown input g ∷ given_by input items past
+given_by input (AFile path ∷ items) (g ∷ past) = under_name input g ∷ given_by input items past
 
 -- the paths of the files among items
 abbrev pub file_paths : List Found → List (List ℕ)
@@ -62,14 +62,14 @@ files_past input done asked past = record { given = given_by input asked past; d
 -- standard output goes to is refused; what standard input is called; and what the store gave before.
 pub record Sought (Tree : Type 0) : Type 0 where
   pub tree : Tree
-  pub operands : List Text
+  pub operands : List Path
   pub scope : Scope
   pub spares : Bool
   pub input_name : List ℕ
   pub earlier : List FileOutcome
 
 -- what the store gave before the items' files were opened stands behind these
-abbrev pub sought : {Tree : Type 0} → Tree → List Text → Scope → (spares : Bool) → (input : List ℕ) → List Found
+abbrev pub sought : {Tree : Type 0} → Tree → List Path → Scope → (spares : Bool) → (input : List ℕ) → List Found
     → List FileOutcome → Sought Tree
 sought tree operands scope spares input asked past = record {
   tree = tree;

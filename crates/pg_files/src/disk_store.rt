@@ -54,14 +54,14 @@ pub struct DiskStore<R: Files + Input + Drop> {
 }
 
 impl<R: Files + Input + Drop> Model for DiskStore<R> {
-    ghost use Rattle.pg_files.specs.DiskStore.{DiskData, left_of, opened};
+    ghost use Rattle.pg_files.specs.DiskStore.{DiskData, disk_left, source_kind};
 
     ghost Value = { DiskData };
 
     ghost view = { λ s. record {
       past = s.past;
-      reads = opened s.source;
-      left = left_of R.Reader.remaining R.File.remaining s.source;
+      reads = source_kind s.source;
+      left = disk_left R.Reader.remaining R.File.remaining s.source;
       output = s.output;
     } };
 }

@@ -69,7 +69,7 @@ impl<A: Allocator + Copy> Drop for MemStore<A> {
 }
 
 impl<A: Allocator + Copy> MemStore<A> {
-    ghost use Rattle.pg_files.specs.MemStore.{stored, files, left, left_of, file_at};
+    ghost use Rattle.pg_files.specs.MemStore.{stored_file, files, content_left, left_of, file_at};
 
     /// A store without files, in which no file can be opened. A read gives as much as it can, and no file can be taken
     /// whole.
@@ -99,7 +99,7 @@ impl<A: Allocator + Copy> MemStore<A> {
         ensures ok { OnOk result
             (files self.new ≡ files self.old ++ (path.now, record { bytes = bytes.now; ending = ending }) ∷ []) }
         ensures err { OnErr result (files self.new ≡ files self.old) }
-        ensures left { left self.new ≡ left self.old }
+        ensures left { content_left self.new ≡ content_left self.old }
         ensures past { self.new.past ≡ self.old.past }
         ensures limit { self.new.read_limit ≡ self.old.read_limit }
     {
@@ -116,7 +116,7 @@ impl<A: Allocator + Copy> MemStore<A> {
     pub fn set_read_limit(&mut self, read_limit: usize)
         requires { 1 ≤ read_limit }
         ensures files { files self.new ≡ files self.old }
-        ensures left { left self.new ≡ left self.old }
+        ensures left { content_left self.new ≡ content_left self.old }
         ensures past { self.new.past ≡ self.old.past }
         ensures limit { self.new.read_limit ≡ read_limit }
     {
@@ -126,7 +126,7 @@ impl<A: Allocator + Copy> MemStore<A> {
     /// From now on what is left of a file can be taken whole, in memory of this. Where that is refused it can't.
     pub fn buffer(&mut self, alloc: A)
         ensures files { files self.new ≡ files self.old }
-        ensures left { left self.new ≡ left self.old }
+        ensures left { content_left self.new ≡ content_left self.old }
         ensures past { self.new.past ≡ self.old.past }
         ensures limit { self.new.read_limit ≡ self.old.read_limit }
     {
@@ -150,7 +150,7 @@ impl<A: Allocator + Copy> MemStore<A> {
     /// What the file at a place has left behind its first bytes.
     fn left_of(files: &[MemFile], place: Option<usize>, at: usize) -> Option<(&[u8], Ending)>
         ensures left { option_map (λ left. record { bytes = left.0.now; ending = left.1 }) result
-            ≡ left_of (map stored files.now) place at }
+            ≡ left_of (map stored_file files.now) place at }
         ensures room { IfSome result (λ left. (left.0.now ≡ []) ⊎ (at + length left.0.now ≤ 2 ^ 63)) }
     {
         let file = files.get(place?)?;
@@ -169,7 +169,7 @@ impl<A: Allocator + Copy> Store for MemStore<A> {
     ghost use Rattle.std.specs.Prelude.{None, true};
     ghost use Rattle.pg_base.specs.declared.cause.Cause.TheVariants.{CannotOpen};
     ghost use Rattle.pg_files.specs.declared.store.OpenFault.TheVariants.{Refused};
-    ghost use Rattle.pg_files.specs.MemStore.{files, left, file_at, Takes, TakesAll};
+    ghost use Rattle.pg_files.specs.MemStore.{files, content_left, file_at, TakesContent, TakesAll};
 
     ghost past = { λ s. s.past };
 
@@ -178,7 +178,7 @@ impl<A: Allocator + Copy> Store for MemStore<A> {
         ensures found { OnOk result (is_some (file_at (files self.old) path.now) ≡ true) }
         ensures missing { OnErr result ((file_at (files self.old) path.now ≡ None)
             × (result ≡ Err (Refused CannotOpen))) }
-        ensures left { left self.new ≡ file_at (files self.old) path.now }
+        ensures left { content_left self.new ≡ file_at (files self.old) path.now }
         ensures files { files self.new ≡ files self.old }
         ensures limit { self.new.read_limit ≡ self.old.read_limit }
     {
@@ -199,7 +199,7 @@ impl<A: Allocator + Copy> Store for MemStore<A> {
     fn read(&mut self, into: &mut [u8]) -> Result<usize, ReadFault>
         ensures given { ReadGives into.new self.old.past self.new.past result }
         ensures size { length into.new ≡ length into.old }
-        ensures takes { Takes (left self.old) (left self.new)
+        ensures takes { TakesContent (content_left self.old) (content_left self.new)
             (min (length into.old) self.old.read_limit) into.new result }
         ensures files { files self.new ≡ files self.old }
         ensures limit { self.new.read_limit ≡ self.old.read_limit }
@@ -226,8 +226,8 @@ impl<A: Allocator + Copy> Store for MemStore<A> {
     fn take_buffered(&mut self, most: usize) -> Option<Vec<u8, A>>
         ensures taken { TakesBuffered (option_map (λ taken. taken.items) result) self.old.past self.new.past }
         ensures few { IfSome result (λ taken. length taken.items ≤ most) }
-        ensures takes { IfSome result (λ taken. TakesAll (left self.old) (left self.new) taken.items) }
-        ensures none { IfNone result (left self.new ≡ left self.old) }
+        ensures takes { IfSome result (λ taken. TakesAll (content_left self.old) (content_left self.new) taken.items) }
+        ensures none { IfNone result (content_left self.new ≡ content_left self.old) }
         ensures files { files self.new ≡ files self.old }
         ensures limit { self.new.read_limit ≡ self.old.read_limit }
     {

@@ -1,7 +1,7 @@
 //! What a store gave, for contracts alone.
 ghost use Rattle.std.specs.Prelude.{◌≡◌, List, [], ◌∷◌};
 ghost use Rattle.pg_files.specs.Given.{FileOutcome, NoFile, File, gave_bytes, gave_end};
-ghost use Rattle.pg_files.specs.Accesses.{ended, given_as};
+ghost use Rattle.pg_files.specs.Accesses.{reading_ended, given_as};
 ghost use Rattle.pg_base.specs.Entries.{Left};
 
 use pg_base::{Cause, History};
@@ -22,7 +22,7 @@ pub(crate) enum Reading {
 
 impl Reading {
     fn ended(self, failed: bool) -> Reading
-        ensures { result ≡ ended failed self }
+        ensures { result ≡ reading_ended failed self }
     {
         match self {
             Reading::Refused(cause) => Reading::Refused(cause),
@@ -60,11 +60,11 @@ impl Drop for StorePast {
 impl Model for StorePast {
     ghost use Rattle.std.specs.Prelude.{List};
     ghost use Rattle.pg_files.specs.Given.{FileOutcome};
-    ghost use Rattle.pg_files.specs.Accesses.{past_of};
+    ghost use Rattle.pg_files.specs.Accesses.{outcomes_of};
 
     ghost Value = { List FileOutcome };
 
-    ghost view = { λ p. past_of p.earlier.items p.newest };
+    ghost view = { λ p. outcomes_of p.earlier.items p.newest };
 }
 
 impl StorePast {

@@ -28,9 +28,9 @@ single (x ∷ t) =
     else (if is_enclosed 46 (x ∷ t) then Some (slice_index (x ∷ t) 2, 5) else Some (x, 1))
 
 -- how many lower case letters a text begins with
-abbrev pub letters : Text → ℕ
-letters [] = 0
-letters (x ∷ t) = if lower x then letters t + 1 else 0
+abbrev pub count_of_letters : Text → ℕ
+count_of_letters [] = 0
+count_of_letters (x ∷ t) = if lower x then count_of_letters t + 1 else 0
 
 -- behind `[:`: the class whose name has so many bytes, if `:]` (58 and 93) follows it, and how many bytes write all of
 -- it; a name that no class has stands for no byte
@@ -44,7 +44,7 @@ class_named t n =
 unfoldable pub class_at : Text → Option (Bytes × ℕ)
 class_at [] = None
 class_at (x ∷ []) = None
-class_at (x ∷ y ∷ t) = if x == 91 && y == 58 then class_named t (letters t) else None
+class_at (x ∷ y ∷ t) = if x == 91 && y == 58 then class_named t (count_of_letters t) else None
 
 -- the other end of a range that goes on from this text: behind a hyphen (45), unless a `]` (93) follows that
 unfoldable pub range_end : Text → Option (ℕ × ℕ)
@@ -65,8 +65,8 @@ abbrev pub range_at : Text → Option (Bytes × ℕ)
 range_at t = option_map (range_from t) (single t)
 
 -- what stands for members at the head of a text, and how many bytes write it: `[=x=]`, a class, a range or one byte
-unfoldable pub member : Text → Option (Bytes × ℕ)
-member t =
+unfoldable pub member_at : Text → Option (Bytes × ℕ)
+member_at t =
     if is_enclosed 61 t then Some (one (slice_index t 2), 5)
     else elim (class_at t) [ None ↦ range_at t | Some c ↦ Some c ]
 
@@ -77,17 +77,17 @@ abbrev pub members_behind : ℕ → Bytes → ℕ → Text → Option (Bytes × 
 members_behind k set n [] = None
 members_behind zero set n (x ∷ t) =
     if x == 93 && nat_lt 0 n then Some (set, n + 1)
-    else option_and_then (λ m. members_behind (m.1 - 1) (union set m.0) (n + 1) t) (member (x ∷ t))
+    else option_and_then (λ m. members_behind (m.1 - 1) (union set m.0) (n + 1) t) (member_at (x ∷ t))
 members_behind (suc k) set n (x ∷ t) = members_behind k set (n + 1) t
 
-unfoldable pub members : Text → Option (Bytes × ℕ)
-members t = members_behind 0 empty 0 t
+unfoldable pub members_at : Text → Option (Bytes × ℕ)
+members_at t = members_behind 0 empty 0 t
 
 -- the bytes that aren't in a set, which one byte more writes
 abbrev pub complemented : Bytes × ℕ → Bytes × ℕ
 complemented m = (complement m.0, m.1 + 1)
 
 -- behind `[`: the set, and how many bytes write the rest of it
-unfoldable pub bracket : Text → Option (Bytes × ℕ)
-bracket [] = None
-bracket (x ∷ t) = if x == 33 || x == 94 then option_map complemented (members t) else members (x ∷ t)
+unfoldable pub bracket_at : Text → Option (Bytes × ℕ)
+bracket_at [] = None
+bracket_at (x ∷ t) = if x == 33 || x == 94 then option_map complemented (members_at t) else members_at (x ∷ t)

@@ -1,8 +1,9 @@
 //! Bracket expressions in globs (XCU 2.13.1, XBD 9.3.5).
 ghost use Rattle.std.specs.Prelude.{◌≡◌, ◌<◌, ◌≤◌, ◌+◌, IfSome, IsTrue, length, option_map, slice_index};
-ghost use Rattle.pg_glob.specs.Brackets.{bracket, class_at, class_named, is_enclosed, letters, member, members};
+ghost use Rattle.pg_glob.specs.Brackets.{bracket_at, class_at, class_named, is_enclosed, count_of_letters, member_at};
+ghost use Rattle.pg_glob.specs.Brackets.{members_at};
 ghost use Rattle.pg_glob.specs.Brackets.{range_at, range_end, single};
-ghost use Rattle.pg_glob.specs.Views.{set_of, byte_of};
+ghost use Rattle.pg_glob.specs.Views.{set_and_length, byte_of};
 
 use pg_bytes::{ByteSet, class};
 
@@ -66,7 +67,7 @@ fn single(text: &[u8]) -> Option<WrittenByte>
 
 /// How many lower case letters a text begins with.
 fn letters(text: &[u8]) -> usize
-    ensures count { result ≡ letters text.now }
+    ensures count { result ≡ count_of_letters text.now }
     ensures within { result ≤ length text.now }
 {
     let mut count = 0;
@@ -84,7 +85,7 @@ fn letters(text: &[u8]) -> usize
 /// The class whose name of so many bytes a text begins with, if `:]` follows it.
 fn class_named(text: &[u8], count: usize) -> Option<WrittenSet>
     requires { count ≤ length text.now }
-    ensures reads { option_map set_of result ≡ class_named text.now count }
+    ensures reads { option_map set_and_length result ≡ class_named text.now count }
     ensures within { IfSome result (λ m. (1 ≤ m.length) × (m.length ≤ length text.now + 2)) }
 {
     if byte_at(text, count) != b':' || byte_at(text, count + 1) != b']' {
@@ -100,7 +101,7 @@ fn class_named(text: &[u8], count: usize) -> Option<WrittenSet>
 /// The class that a text begins with.
 #[tactic(auto, unfolding(crate::specs::Brackets::class_at))]
 fn class_at(text: &[u8]) -> Option<WrittenSet>
-    ensures reads { option_map set_of result ≡ class_at text.now }
+    ensures reads { option_map set_and_length result ≡ class_at text.now }
     ensures within { IfSome result (λ m. (1 ≤ m.length) × (m.length ≤ length text.now)) }
 {
     let (first, behind) = text.split_first()?;
@@ -128,7 +129,7 @@ fn range_end(text: &[u8]) -> Option<WrittenByte>
 
 /// The byte or the range that a text begins with.
 fn range_at(text: &[u8]) -> Option<WrittenSet>
-    ensures reads { option_map set_of result ≡ range_at text.now }
+    ensures reads { option_map set_and_length result ≡ range_at text.now }
     ensures within { IfSome result (λ m. (1 ≤ m.length) × (m.length ≤ length text.now)) }
 {
     let low = single(text)?;
@@ -145,9 +146,9 @@ fn range_at(text: &[u8]) -> Option<WrittenSet>
 }
 
 /// What a text begins with that stands for members of a bracket.
-#[tactic(auto, unfolding(crate::specs::Brackets::member))]
+#[tactic(auto, unfolding(crate::specs::Brackets::member_at))]
 fn member(text: &[u8]) -> Option<WrittenSet>
-    ensures reads { option_map set_of result ≡ member text.now }
+    ensures reads { option_map set_and_length result ≡ member_at text.now }
     ensures within { IfSome result (λ m. (1 ≤ m.length) × (m.length ≤ length text.now)) }
 {
     if is_enclosed(b'=', text) {
@@ -163,9 +164,9 @@ fn member(text: &[u8]) -> Option<WrittenSet>
 }
 
 /// The members of a bracket up to its `]`.
-#[tactic(auto, unfolding(crate::specs::Brackets::members))]
+#[tactic(auto, unfolding(crate::specs::Brackets::members_at))]
 fn members(text: &[u8]) -> Option<WrittenSet>
-    ensures reads { option_map set_of result ≡ members text.now }
+    ensures reads { option_map set_and_length result ≡ members_at text.now }
     ensures within { IfSome result (λ m. m.length ≤ length text.now) }
 {
     let mut set = ByteSet::empty();
@@ -187,9 +188,9 @@ fn members(text: &[u8]) -> Option<WrittenSet>
 }
 
 /// The bracket whose `[` a text follows, and how many bytes of the text write it. `None` where it has no end.
-#[tactic(auto, unfolding(crate::specs::Brackets::bracket))]
+#[tactic(auto, unfolding(crate::specs::Brackets::bracket_at))]
 pub(crate) fn bracket(text: &[u8]) -> Option<WrittenSet>
-    ensures reads { option_map set_of result ≡ bracket text.now }
+    ensures reads { option_map set_and_length result ≡ bracket_at text.now }
     ensures within { IfSome result (λ m. m.length ≤ length text.now) }
 {
     let (first, rest) = text.split_first()?;

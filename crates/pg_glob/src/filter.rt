@@ -1,6 +1,6 @@
 //! Which files or directories are left out.
 ghost use Rattle.std.specs.Prelude.{◌≡◌, ◌++◌, ◌∷◌, [], OnOk, OnErr};
-ghost use Rattle.pg_glob.specs.Filters.{fits, last_name, leaves_out, matches_behind_slash};
+ghost use Rattle.pg_glob.specs.Filters.{fits_path, last_name, leaves_out, matches_behind_slash};
 ghost use Rattle.pg_glob.specs.Views.{pieces, rules};
 
 use crate::glob::Glob;
@@ -73,7 +73,7 @@ impl<A: Allocator> Filter<A> {
 
 /// Whether a glob fits a path.
 fn fits<A: Allocator>(glob: &Glob<A>, operand: bool, path: &[u8]) -> bool
-    ensures { result ≡ fits operand path.now (pieces glob.now) }
+    ensures { result ≡ fits_path operand path.now (pieces glob.now) }
 {
     if operand {
         glob.matches(path) || matches_behind_slash(glob, path)

@@ -1,7 +1,7 @@
 //! How a glob is read from its text.
 ghost use Rattle.std.specs.Prelude.{◌≡◌, ◌≤◌, IfOk, length, map};
 ghost use Rattle.pg_glob.specs.Globs.{bracket_or, piece, pieces_of, quoted};
-ghost use Rattle.pg_glob.specs.Brackets.{bracket};
+ghost use Rattle.pg_glob.specs.Brackets.{bracket_at};
 ghost use Rattle.pg_glob.specs.Views.{piece_of, written_of};
 
 use crate::bracket::bracket;
@@ -35,7 +35,7 @@ fn quoted(rest: &[u8]) -> WrittenPart
 
 /// The bracket whose `[` a text follows, or that byte itself.
 fn bracket_or_byte(rest: &[u8]) -> WrittenPart
-    ensures reads { written_of result ≡ bracket_or (bracket rest.now) }
+    ensures reads { written_of result ≡ bracket_or (bracket_at rest.now) }
     ensures within { result.behind ≤ length rest.now }
 {
     match bracket(rest) {

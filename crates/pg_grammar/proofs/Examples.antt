@@ -10,7 +10,7 @@ use Rattle.pg_grammar.specs.Brackets as B
 use Rattle.pg_grammar.specs.Brackets.{Element, Single, Enclosed, IsBracket}
 use Rattle.pg_grammar.specs.Grammar as G
 use Rattle.pg_grammar.specs.Grammar.{Atom, Piece, Body, Mark, Spells}
-use Rattle.pg_grammar.specs.Places.{CanGoOn, CannotGoOn, PlaceIn, Stands}
+use Rattle.pg_grammar.specs.Places.{CanGoOn, CannotGoOn, PlaceIn, BytesStand}
 use Rattle.pg_grammar.specs.declared.syntax.Syntax.{Syntax}
 use Rattle.pg_grammar.specs.declared.syntax.Syntax.TheVariants.{Basic, Extended}
 use Rattle.pg_grammar.specs.declared.pattern_list.Kind.TheVariants as K
@@ -279,7 +279,7 @@ front (b ∷ t) = b
 other_front : {b c : ℕ} {s t : List ℕ} → b ≢ c → b ∷ s ≢ c ∷ t
 other_front n e = n (ap front e)
 
-repeats : {mark : List ℕ} {m : ℕ} {n : Option ℕ} → Mark Extended mark m n → Stands (codes "a*\\q") 1 mark
+repeats : {mark : List ℕ} {m : ℕ} {n : Option ℕ} → Mark Extended mark m n → BytesStand (codes "a*\\q") 1 mark
     → CannotGoOn Extended (codes "a") mark → ⊥
 repeats G.star (rest, is) cannot = cannot.none 0 _ (star_between cannot.fold)
 repeats (G.plus e) (rest, is) cannot = other_front (omega arith) is

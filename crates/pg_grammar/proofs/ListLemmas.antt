@@ -11,7 +11,7 @@ use Rattle.pg_grammar.specs.Slices.{bytes_of, last_line}
 use Rattle.pg_pattern.specs.Patterns.{Pattern}
 use Rattle.pg_pattern.specs.Trees.{pattern}
 use Rattle.pg_pattern.specs.declared.tree.Tree.{Tree}
-use Rattle.pg_grammar.specs.Places.{Place}
+use Rattle.pg_grammar.specs.Places.{MayStand}
 use Rattle.pg_grammar.specs.Results.{IsSpelled, IsFault, out_of_memory}
 use Rattle.pg_grammar.specs.ListResults.{AreSpelled, IsListFault}
 use Rattle.pg_grammar.specs.declared.pattern_list.Kind.{Kind}
@@ -135,10 +135,10 @@ spelled-length kind fold [] (q ∷ trees) h = absurd h
 spelled-length kind fold (t ∷ texts) [] h = absurd h
 spelled-length kind fold (t ∷ texts) (q ∷ trees) h = ap suc (spelled-length kind fold texts trees h.1)
 
-no-memory-place : (kind : Kind) (k : FaultKind) (text : List ℕ) (at : ℕ) → k ≡ OutOfMemory → Place kind k text at → ⊥
-no-memory-place kind k text at e h = go kind (subst (λ x. Place kind x text at) e h)
+no-memory-place : (kind : Kind) (k : FaultKind) (text : List ℕ) (at : ℕ) → k ≡ OutOfMemory → MayStand kind k text at → ⊥
+no-memory-place kind k text at e h = go kind (subst (λ x. MayStand kind x text at) e h)
   where
-    go : (kind : Kind) → Place kind OutOfMemory text at → ⊥
+    go : (kind : Kind) → MayStand kind OutOfMemory text at → ⊥
     go K.Basic h = h.2
     go K.Extended h = h.2
     go K.Fixed h = let e = h.0 in cc

@@ -78,13 +78,13 @@ ranges (d ∷ b ∷ es) = is_dash d
 
 -- The bytes of the elements (rules 2 and 7). A `-` between two elements makes a range of them, and after a range no
 -- other one may begin.
-pub data Members : List Element → Bytes → Type 0 where
-  none : Members [] empty
-  alone : {a : Element} {es : List Element} {s t : Bytes} → member a ≡ Some s → ranges es ≡ false → Members es t
-      → Members (a ∷ es) (union s t)
+pub data MembersOf : List Element → Bytes → Type 0 where
+  none : MembersOf [] empty
+  alone : {a : Element} {es : List Element} {s t : Bytes} → member a ≡ Some s → ranges es ≡ false → MembersOf es t
+      → MembersOf (a ∷ es) (union s t)
   range : {a d b : Element} {es : List Element} {m n : ℕ} {t : Bytes} → is_dash d ≡ true → end_point a ≡ Some m
-      → end_point b ≡ Some n → m ≤ n → ranges es ≡ false → Members es t
-      → Members (a ∷ d ∷ b ∷ es) (union (between m n) t)
+      → end_point b ≡ Some n → m ≤ n → ranges es ≡ false → MembersOf es t
+      → MembersOf (a ∷ d ∷ b ∷ es) (union (between m n) t)
 
 -- a `^` stands at the front
 abbrev pub negates : List ℕ → Bool
@@ -97,7 +97,7 @@ OpensBracket text elements = ((text ≡ 91 ∷ elements) × (negates elements �
 
 -- A bracket and its set. With a `^` behind the `[` it is the complement (rule 3), taken after case was folded.
 pub data IsBracket (fold : Bool) : List ℕ → Bytes → Type 0 where
-  plain : {t : List ℕ} {es : List Element} {s : Bytes} → negates t ≡ false → Inside true t es → Members es s
+  plain : {t : List ℕ} {es : List Element} {s : Bytes} → negates t ≡ false → Inside true t es → MembersOf es s
       → IsBracket fold (91 ∷ t) (folded fold s)
-  negated : {t : List ℕ} {es : List Element} {s : Bytes} → Inside true t es → Members es s
+  negated : {t : List ℕ} {es : List Element} {s : Bytes} → Inside true t es → MembersOf es s
       → IsBracket fold (91 ∷ 94 ∷ t) (complement (folded fold s))

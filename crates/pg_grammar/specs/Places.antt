@@ -18,8 +18,8 @@ use Rattle.pg_grammar.specs.declared.fault.FaultKind.TheVariants.{UnmatchedGroup
 use Rattle.pg_grammar.specs.declared.fault.FaultKind.TheVariants.{EmptyOperand, TooDeep, OutOfMemory, TooLong}
 
 -- the bytes stand in the text at this offset
-abbrev pub Stands : List ℕ → ℕ → List ℕ → Type 0
-Stands text at w = (rest : List ℕ) × (drop at text ≡ w ++ rest)
+abbrev pub BytesStand : List ℕ → ℕ → List ℕ → Type 0
+BytesStand text at w = (rest : List ℕ) × (drop at text ≡ w ++ rest)
 
 -- the text is longer than 4,096 bytes, and the fault stands behind the last that may be
 abbrev pub IsPastLongest : List ℕ → ℕ → Type 0
@@ -36,9 +36,9 @@ HasNoMeaning syntax b = IsUnescaped syntax b × ((b < 49) ⊎ (57 < b))
 
 -- what opens an interval stands at this offset, but no bounds with what closes it behind that
 abbrev pub HasNoInterval : Syntax → List ℕ → ℕ → Type 0
-HasNoInterval syntax text at = Stands text at (brace syntax)
+HasNoInterval syntax text at = BytesStand text at (brace syntax)
     × ((t : List ℕ) (m : ℕ) (n : Option ℕ) → IsBounds t m n
-    → Stands text at (brace syntax ++ (t ++ unbrace syntax)) → ⊥)
+    → BytesStand text at (brace syntax ++ (t ++ unbrace syntax)) → ⊥)
 
 -- what opens a bracket stands at this offset, but no elements with the `]` that closes it behind that
 pub record HasNoEnd (text : List ℕ) (at : ℕ) : Type 0 where
@@ -120,7 +120,7 @@ pub record CannotGoOn (syntax : Syntax) (front token : List ℕ) : Type 0 where
 
 -- these bytes stand in the text at this offset, and no expression goes on behind them
 abbrev pub IsMisplaced : Syntax → List ℕ → ℕ → List ℕ → Type 0
-IsMisplaced syntax text at w = Stands text at w × CannotGoOn syntax (take at text) w
+IsMisplaced syntax text at w = BytesStand text at w × CannotGoOn syntax (take at text) w
 
 -- What stands where an expression has a fault of this kind, in the token that begins at the first offset: a backslash
 -- at the end, before a byte whose escape has no meaning, or before a digit from 1 to 9; a `[` that begins no bracket;
@@ -131,9 +131,9 @@ IsMisplaced syntax text at w = Stands text at w × CannotGoOn syntax (take at te
 abbrev pub PlaceInToken : Syntax → FaultKind → List ℕ → (token at : ℕ) → Type 0
 PlaceInToken syntax TrailingBackslash text token at = (at ≡ token) × (drop at text ≡ 92 ∷ [])
 PlaceInToken syntax BadEscape text token at =
-    (at ≡ token) × (b : ℕ) × HasNoMeaning syntax b × Stands text at (92 ∷ b ∷ [])
+    (at ≡ token) × (b : ℕ) × HasNoMeaning syntax b × BytesStand text at (92 ∷ b ∷ [])
 PlaceInToken syntax BackReference text token at =
-    (at ≡ token) × (d : ℕ) × (49 ≤ d) × (d ≤ 57) × Stands text at (92 ∷ d ∷ [])
+    (at ≡ token) × (d : ℕ) × (49 ≤ d) × (d ≤ 57) × BytesStand text at (92 ∷ d ∷ [])
 PlaceInToken syntax UnmatchedBracket text token at = (at ≡ token) × HasNoEnd text at
 PlaceInToken syntax BadClass text token at = IsBadElement 58 text token at
 PlaceInToken syntax BadCollating text token at = IsBadElement 61 text token at ⊎ IsBadElement 46 text token at
@@ -147,7 +147,7 @@ PlaceInToken syntax EmptyOperand text token at = (at ≡ token)
     × (IsMisplaced syntax text at (closing syntax)
     ⊎ (((syntax ≡ Extended) × IsMisplaced syntax text at (124 ∷ [])) ⊎ ((at ≡ length text) × LeavesEmpty syntax text)))
 PlaceInToken syntax TooDeep text token at =
-    (at ≡ token) × Stands text at (opening syntax) × LeavesOpen syntax 99 (take at text)
+    (at ≡ token) × BytesStand text at (opening syntax) × LeavesOpen syntax 99 (take at text)
 PlaceInToken syntax OutOfMemory text token at = ⊥
 PlaceInToken syntax TooLong text token at = IsPastLongest text at
 
@@ -158,7 +158,7 @@ PlaceIn syntax kind text at =
     (token : ℕ) × CanGoOn syntax (take token text) × PlaceInToken syntax kind text token at
 
 -- A fault of this kind can stand at this offset of a text. A fixed string can only be too long.
-abbrev pub Place : Kind → FaultKind → List ℕ → ℕ → Type 0
-Place K.Basic kind text at = PlaceIn S.Basic kind text at
-Place K.Extended kind text at = PlaceIn S.Extended kind text at
-Place K.Fixed kind text at = (kind ≡ TooLong) × IsPastLongest text at
+abbrev pub MayStand : Kind → FaultKind → List ℕ → ℕ → Type 0
+MayStand K.Basic kind text at = PlaceIn S.Basic kind text at
+MayStand K.Extended kind text at = PlaceIn S.Extended kind text at
+MayStand K.Fixed kind text at = (kind ≡ TooLong) × IsPastLongest text at

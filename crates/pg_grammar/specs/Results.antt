@@ -2,7 +2,7 @@
 use Rattle.std.specs.Prelude.{ℕ, ◌≡◌, ◌<◌, ◌⊎◌, Bool, List, length}
 use Rattle.pg_pattern.specs.Patterns.{Pattern, IsProper}
 use Rattle.pg_grammar.specs.Grammar.{Spells}
-use Rattle.pg_grammar.specs.Places.{Place}
+use Rattle.pg_grammar.specs.Places.{MayStand}
 use Rattle.pg_grammar.specs.declared.pattern_list.Kind.{Kind}
 use Rattle.pg_grammar.specs.declared.fault.FaultKind.TheVariants.{OutOfMemory, TooLong}
 use Rattle.pg_grammar.specs.declared.fault.SyntaxFault.{SyntaxFault}
@@ -24,7 +24,7 @@ pub record IsSpelled (kind : Kind) (fold : Bool) (text : List ℕ) (p : Pattern)
 -- The text spells no pattern, and the fault stands at its place. A text that is too long has no other fault.
 pub record IsRefused (kind : Kind) (fold : Bool) (text : List ℕ) (f : SyntaxFault) : Type 0 where
   pub none : (q : Pattern) → Spells kind fold text q → ⊥
-  pub place : Place kind f.kind text f.at
+  pub place : MayStand kind f.kind text f.at
   pub long : 4096 < length text → f ≡ too_long
 
 -- a fault that is no refused growth is the text's

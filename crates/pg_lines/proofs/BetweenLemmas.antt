@@ -7,7 +7,7 @@ use Rattle.std.proofs.lemmas.Bool.{ltb-true, ltb-false}
 use Rattle.std.proofs.lemmas.List.{drop_at, take_at, append-nil}
 use Rattle.pg_blocks.specs.Lines.{lines, AreWhole}
 use Rattle.pg_selection.specs.Search.{SearchText, Search, Pattern, search_of, uninverted, terminator_of, terminator}
-use Rattle.pg_selection.specs.Selection.{selects, has_hit, parts}
+use Rattle.pg_selection.specs.Selection.{selects, has_match, parts_of_line}
 use Rattle.pg_selection.specs.Runs.{AllLines, IsNextRun, AreRuns}
 use Rattle.pg_selection.specs.BlockParts.{part_at, parts_of_lines}
 use Rattle.pg_prefilter.specs.NextHits.{IsNextLine}
@@ -42,7 +42,7 @@ passed_none q bytes runs none = record {
 turned : (text : SearchText) (trees : List Pattern) → text.invert ≡ true → (b : Bool) (line : List ℕ)
     → selects (search_of (uninverted text) trees) line ≡ b → selects (search_of text trees) line ≡ not b
 turned text trees inverted b line e =
-    let hit = has_hit (search_of text trees) line in
+    let hit = has_match (search_of text trees) line in
     ap (λ v. cond v (not hit) hit) inverted ∙ ap not e
 
 all_turned : (text : SearchText) (trees : List Pattern) → text.invert ≡ true → (b : Bool) (bytes : List ℕ)
@@ -261,10 +261,10 @@ module _ (text : SearchText) (trees : List Pattern) (inverted : text.invert ≡ 
 pub no_part : (q : Search) (at seen : ℕ) (ls : List (List ℕ)) → q.text.invert ≡ true → parts_of_lines q at seen ls ≡ []
 no_part q at seen [] inverted = refl
 no_part q at seen (l ∷ ls) inverted =
-    let own : cond (selects q l) (map (part_at at seen) (parts q l)) [] ≡ [] = none (selects q l) refl in
+    let own : cond (selects q l) (map (part_at at seen) (parts_of_line q l)) [] ≡ [] = none (selects q l) refl in
     ap (λ ps. ps ++ parts_of_lines q (at + (length l + 1)) (seen + 1) ls) own
     ∙ no_part q (at + (length l + 1)) (seen + 1) ls inverted
   where
-    none : (b : Bool) → selects q l ≡ b → cond b (map (part_at at seen) (parts q l)) [] ≡ []
+    none : (b : Bool) → selects q l ≡ b → cond b (map (part_at at seen) (parts_of_line q l)) [] ≡ []
     none true e = ap (map (part_at at seen)) (no_parts q l inverted e)
     none false e = refl

@@ -11,7 +11,7 @@ use Rattle.pg_literal.specs.Literals.{as_searched, Holds}
 use Rattle.pg_literal.specs.declared.literal.Literal.{Literal}
 use Rattle.pg_selection.specs.Runs.{AllLines, AreRuns}
 use Rattle.pg_selection.specs.Search.{SearchText, Search, terminator}
-use Rattle.pg_selection.specs.Selection.{selects, has_hit}
+use Rattle.pg_selection.specs.Selection.{selects, has_match}
 use Rattle.pg_selection.specs.declared.run.Run.{Run}
 use Rattle.pg_lines.specs.Finding.{HitsEachLine}
 use Rattle.pg_prefilter.specs.Literals.{AreLiterals, data_of}
@@ -89,9 +89,10 @@ not_asked true xs e = absurd (true≢false e)
 not_asked false xs e = refl
 
 -- each line is selected, or with -v none
-pub each_selected : (q : Search) (line : List ℕ) → q.text.invert ≡ false → has_hit q line ≡ true → selects q line ≡ true
-each_selected q line upright hit = ap (λ v. cond v (not (has_hit q line)) (has_hit q line)) upright ∙ hit
+pub each_selected : (q : Search) (line : List ℕ) → q.text.invert ≡ false → has_match q line ≡ true
+    → selects q line ≡ true
+each_selected q line upright hit = ap (λ v. cond v (not (has_match q line)) (has_match q line)) upright ∙ hit
 
-pub each_unselected : (q : Search) (line : List ℕ) → q.text.invert ≡ true → has_hit q line ≡ true
+pub each_unselected : (q : Search) (line : List ℕ) → q.text.invert ≡ true → has_match q line ≡ true
     → selects q line ≡ false
-each_unselected q line inverted hit = ap (λ v. cond v (not (has_hit q line)) (has_hit q line)) inverted ∙ ap not hit
+each_unselected q line inverted hit = ap (λ v. cond v (not (has_match q line)) (has_match q line)) inverted ∙ ap not hit

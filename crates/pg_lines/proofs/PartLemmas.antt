@@ -15,7 +15,7 @@ use Rattle.pg_pattern.proofs.PartLaws.{parts_are_one}
 use Rattle.pg_pattern.proofs.TestLemmas.{hits_decided}
 use Rattle.pg_blocks.specs.Lines.{lines, AreWhole, AreShort, terminated}
 use Rattle.pg_selection.specs.Search.{SearchText, Search, Pattern, Bounds, AreTreesOf, search_of, terminator, bounds_of}
-use Rattle.pg_selection.specs.Selection.{selects, parts, has_hit}
+use Rattle.pg_selection.specs.Selection.{selects, parts_of_line, has_match}
 use Rattle.pg_lines.specs.Queries.{Compiled, IsCompiled}
 use Rattle.pg_selection.proofs.TreeLemmas.{same_trees}
 use Rattle.pg_selection.specs.Runs.{AllLines}
@@ -37,10 +37,11 @@ parts_before q bytes place =
     if q.text.with_parts then parts_of_lines q 0 0 (lines (terminator q) (take place bytes)) else []
 
 -- a line that is selected since nothing in it is matched has no part
-pub no_parts : (q : Search) (line : List ℕ) → q.text.invert ≡ true → selects q line ≡ true → parts q line ≡ []
+pub no_parts : (q : Search) (line : List ℕ) → q.text.invert ≡ true → selects q line ≡ true → parts_of_line q line ≡ []
 no_parts q line inverted chosen =
-    let no_hit : has_hit q line ≡ false =
-    not_true (has_hit q line) (sym (ap (λ b. cond b (not (has_hit q line)) (has_hit q line)) inverted) ∙ chosen) in
+    let no_hit : has_match q line ≡ false =
+    not_true (has_match q line) (sym (ap (λ b. cond b (not (has_match q line)) (has_match q line)) inverted)
+    ∙ chosen) in
     let bounds = bounds_of q.text in
     let nothing : HasNoNext q.trees bounds line 0 =
     λ i j from some hit. false≢true (sym no_hit ∙ (hits_decided q.trees bounds line).whole_line.1 (i, j, hit)) in
@@ -60,7 +61,7 @@ parts-append q at seen [] ys =
     ap (λ n. parts_of_lines q n seen ys) at' ∙ ap (λ n. parts_of_lines q (at + 0) n ys) seen'
 parts-append q at seen (l ∷ xs) ys =
     let E = terminator q in
-    let own = cond (selects q l) (map (part_at at seen) (parts q l)) [] in
+    let own = cond (selects q l) (map (part_at at seen) (parts_of_line q l)) [] in
     let next = at + (length l + 1) in
     let at' : next + length (terminated E xs) ≡ at + length (terminated E (l ∷ xs)) =
     omega (arith, length-terminated-cons E xs l) in
@@ -78,7 +79,7 @@ parts_none : (q : Search) (at seen : ℕ) (ls : List (List ℕ)) → AllByRecurs
 parts_none q at seen [] h = refl
 parts_none q at seen (l ∷ ls) h =
     let later = parts_of_lines q (at + (length l + 1)) (seen + 1) ls in
-    ap (λ b. cond b (map (part_at at seen) (parts q l)) [] ++ later) h.0
+    ap (λ b. cond b (map (part_at at seen) (parts_of_line q l)) [] ++ later) h.0
     ∙ parts_none q (at + (length l + 1)) (seen + 1) ls h.1
 
 -- the parts of whole lines from a block's start on, and of what stands behind them
@@ -157,7 +158,7 @@ module _ (q : Search) (bytes : List ℕ) (runs : List Run) (run : Run) (g : IsGa
           → selects q text ≡ true → (number : ℕ) → number + 1 ≡ new.first + new.count
           → parts_of_lines q 0 0 (lines (terminator q) (take new.span.end bytes))
           ≡ parts_of_lines q 0 0 (lines (terminator q) (take run.span.end bytes))
-          ++ map (part_at line.start number) (parts q text)
+          ++ map (part_at line.start number) (parts_of_line q text)
       parts_to_line text alone chosen number counted =
           let E = terminator q in
           let n = found.1 in
@@ -184,10 +185,10 @@ module _ (q : Search) (bytes : List ℕ) (runs : List Run) (run : Run) (g : IsGa
             ap length one,
             counted,
           ) in
-          let own : cond (selects q text) (map (part_at line.start number) (parts q text)) [] ++ []
-          ≡ map (part_at line.start number) (parts q text) =
-          append-nil (cond (selects q text) (map (part_at line.start number) (parts q text)) [])
-          ∙ ap (λ b. cond b (map (part_at line.start number) (parts q text)) []) chosen in
+          let own : cond (selects q text) (map (part_at line.start number) (parts_of_line q text)) [] ++ []
+          ≡ map (part_at line.start number) (parts_of_line q text) =
+          append-nil (cond (selects q text) (map (part_at line.start number) (parts_of_line q text)) [])
+          ∙ ap (λ b. cond b (map (part_at line.start number) (parts_of_line q text)) []) chosen in
           let earlier = parts_of_lines q 0 0 (lines E (take run.span.end bytes)) in
           ap (λ xs. parts_of_lines q 0 0 (lines E xs)) upto
           ∙ (parts_behind q front n.text front_whole
@@ -202,9 +203,9 @@ module _ (q : Search) (bytes : List ℕ) (runs : List Run) (run : Run) (g : IsGa
       pub parts_with_line : (text : List ℕ) → lines (terminator q) (slice_range bytes line.start line.end) ≡ text ∷ []
           → selects q text ≡ true → (number : ℕ) → number + 1 ≡ new.first + new.count
           → parts_before q bytes new.span.end ≡ parts_before q bytes run.span.end
-          ++ cond q.text.with_parts (map (part_at line.start number) (parts q text)) []
+          ++ cond q.text.with_parts (map (part_at line.start number) (parts_of_line q text)) []
       parts_with_line text alone chosen number counted =
-          let own = map (part_at line.start number) (parts q text) in
+          let own = map (part_at line.start number) (parts_of_line q text) in
           let earlier = parts_of_lines q 0 0 (lines (terminator q) (take run.span.end bytes)) in
           ap (λ ps. cond q.text.with_parts ps []) (parts_to_line text alone chosen number counted)
           ∙ elim (q.text.with_parts) as (λ b. cond b (earlier ++ own) [] ≡ cond b earlier [] ++ cond b own []) [
@@ -270,7 +271,7 @@ module _ (text : SearchText) (line : List ℕ) (at number : ℕ) (before : List 
 
   pub pushed_all : (place : ℕ) (after : List Part) → IsPushed text line at number place before after
       → (trees : List Pattern) → AreTreesOf text trees → HasNoNext trees (bounds_of text) line place
-      → after ≡ before ++ map (part_at at number) (parts (search_of text trees) line)
+      → after ≡ before ++ map (part_at at number) (parts_of_line (search_of text trees) line)
   pushed_all place after h trees spelled nothing =
       let all = sym (append-nil h.0)
       ∙ parts_are_one trees (bounds_of text) line (h.0 ++ []) (h.2 trees spelled [] (none nothing)) in

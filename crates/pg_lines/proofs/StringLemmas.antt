@@ -15,7 +15,7 @@ use Rattle.pg_grammar.specs.Slices.{bytes_of}
 use Rattle.pg_syntax.proofs.PlainLemmas.{plain_spelled}
 use Rattle.pg_literal.proofs.StringLemmas.{literal_some}
 use Rattle.pg_match.specs.Sizes.{list_size}
-use Rattle.pg_match.specs.Strings.{string_pattern, string_patterns, with_bytes}
+use Rattle.pg_match.specs.Strings.{string_pattern, string_patterns, with_string}
 use Rattle.pg_match.specs.declared.machine.BuildFault.{BuildFault}
 use Rattle.pg_match.specs.declared.machine.BuildFault.TheVariants.{TooManyStates}
 use Rattle.pg_selection.specs.Search.{SearchText, Kind, Fixed, AreTreesOf}
@@ -31,10 +31,10 @@ module _ (fold : Bool) where
 
   -- a row of bytes is a literal
   literal_behind : (front : List ℕ) (p : Pattern) (text : List ℕ) → Literal fold front p
-      → Literal fold (front ++ text) (with_bytes fold p text)
+      → Literal fold (front ++ text) (with_string fold p text)
   literal_behind front p [] l = subst (λ t. Literal fold t p) (sym (append-nil front)) l
   literal_behind front p (b ∷ text) l =
-      subst (λ t. Literal fold t (with_bytes fold (Cat p (byte b)) text)) (append_assoc front (b ∷ []) text)
+      subst (λ t. Literal fold t (with_string fold (Cat p (byte b)) text)) (append_assoc front (b ∷ []) text)
       (literal_behind (front ++ b ∷ []) (Cat p (byte b)) text (G.more l b))
 
   -- a string spells its pattern
@@ -44,7 +44,7 @@ module _ (fold : Bool) where
 
   -- one more byte
   one_behind : (p : Pattern) (text : List ℕ) (b : ℕ)
-      → with_bytes fold p (text ++ b ∷ []) ≡ Cat (with_bytes fold p text) (byte b)
+      → with_string fold p (text ++ b ∷ []) ≡ Cat (with_string fold p text) (byte b)
   one_behind p [] b = refl
   one_behind p (c ∷ text) b = one_behind (Cat p (byte c)) text b
 
@@ -64,7 +64,7 @@ module _ (fold : Bool) where
   spells_only (G.some short l) = literal_pattern l
 
   -- no repetition stands in it
-  proper_behind : (p : Pattern) (text : List ℕ) → IsProper p → IsProper (with_bytes fold p text)
+  proper_behind : (p : Pattern) (text : List ℕ) → IsProper p → IsProper (with_string fold p text)
   proper_behind p [] proper = proper
   proper_behind p (b ∷ text) proper = proper_behind (Cat p (byte b)) text (proper, tt)
 

@@ -3,7 +3,7 @@ use Rattle.std.specs.Prelude.{◌≡◌, ℕ, ◌≤◌, true, List, length, dro
 use Rattle.pg_match.specs.Machines.{Fits, Room}
 use Rattle.pg_blocks.specs.Lines.{AreShort}
 use Rattle.pg_selection.specs.Search.{SearchText, Pattern, AreTreesOf, search_of, terminator_of}
-use Rattle.pg_selection.specs.Selection.{has_hit}
+use Rattle.pg_selection.specs.Selection.{has_match}
 use Rattle.pg_lines.specs.Queries.{Compiled}
 use Rattle.pg_prefilter.specs.Strings.{IsBlockJudge}
 use Rattle.pg_prefilter.specs.Candidates.{AreNeedles}
@@ -23,4 +23,4 @@ pub record CanSearch {A B : Type 0} (query : Compiled) (bytes : List ℕ) (block
 -- each line has a hit
 abbrev pub HitsEachLine : SearchText → Type 0
 HitsEachLine text = (trees : List Pattern) → AreTreesOf text trees → (line : List ℕ)
-    → has_hit (search_of text trees) line ≡ true
+    → has_match (search_of text trees) line ≡ true

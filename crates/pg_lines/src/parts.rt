@@ -5,7 +5,7 @@ ghost use Rattle.pg_pattern.specs.Hits.{HasNoNext, IsNext};
 ghost use Rattle.pg_match.specs.Machines.{Fits};
 ghost use Rattle.pg_blocks.specs.Lines.{lines};
 ghost use Rattle.pg_selection.specs.Search.{Pattern, AreTreesOf, bounds_of, search_of, terminator_of};
-ghost use Rattle.pg_selection.specs.Selection.{selects, parts};
+ghost use Rattle.pg_selection.specs.Selection.{selects, parts_of_line};
 ghost use Rattle.pg_selection.specs.BlockParts.{part_at};
 ghost use Rattle.pg_prefilter.specs.Strings.{IsBlockJudge, FindsPart, JudgesLine};
 
@@ -79,7 +79,7 @@ fn push_parts<A: Allocator>(
     requires line { JudgesLine query.now.text judge.now line.now at }
     ensures fits { Fits scratch.new query.now.machine }
     ensures parts { (trees : List Pattern) → AreTreesOf query.now.text trees → OnOk result (found.new.items
-        ≡ found.old.items ++ map (part_at at number) (parts (search_of query.now.text trees) line.now)) }
+        ≡ found.old.items ++ map (part_at at number) (parts_of_line (search_of query.now.text trees) line.now)) }
 {
     let mut place = 0;
     while let Some((start, end)) = next_part(query, judge, scratch, line, at, place) {
@@ -115,7 +115,7 @@ pub(crate) fn push_line_parts<A: Allocator>(
         → lines (terminator_of query.now.text) (slice_range bytes.now line.start line.end) ≡ text ∷ []
         → selects (search_of query.now.text trees) text ≡ true → OnOk result (found.new.items ≡ found.old.items
         ++ (if query.now.text.with_parts
-        then map (part_at line.start number) (parts (search_of query.now.text trees) text) else [])) }
+        then map (part_at line.start number) (parts_of_line (search_of query.now.text trees) text) else [])) }
 {
     let options = query.text();
     if options.with_parts && !options.invert {

@@ -7,7 +7,7 @@ ghost use Rattle.pg_match.specs.Lines.{IsTextAt};
 ghost use Rattle.pg_match.specs.Machines.{Fits};
 ghost use Rattle.pg_blocks.specs.Lines.{lines, AreShort};
 ghost use Rattle.pg_selection.specs.Search.{Pattern, AreTreesOf, bounds_of, search_of, terminator_of};
-ghost use Rattle.pg_selection.specs.Selection.{has_hit};
+ghost use Rattle.pg_selection.specs.Selection.{has_match};
 ghost use Rattle.pg_selection.specs.Searched.{IsFound};
 ghost use Rattle.pg_lines.specs.Queries.{IsCompiled};
 ghost use Rattle.pg_prefilter.specs.Literals.{AreLiterals, TellHeads, data_of};
@@ -54,7 +54,7 @@ fn has_hit_behind<A: Allocator>(
         → FindsPart trees (bounds_of query.now.text) line.now 0 (Behind place) }
     ensures fits { Fits scratch.new query.now.machine }
     ensures hit { (trees : List Pattern) → AreTreesOf query.now.text trees
-        → result ≡ has_hit (search_of query.now.text trees) line.now }
+        → result ≡ has_match (search_of query.now.text trees) line.now }
 {
     let machine = query.machine();
     if query.prefilter().ignores_front() {
@@ -78,7 +78,7 @@ fn has_hit<A: Allocator>(
     requires line { JudgesLine query.now.text judge.now line.now at }
     ensures fits { Fits scratch.new query.now.machine }
     ensures hit { (trees : List Pattern) → AreTreesOf query.now.text trees →
-        result ≡ has_hit (search_of query.now.text trees) line.now }
+        result ≡ has_match (search_of query.now.text trees) line.now }
 {
     match next_by_judge(query, judge, line, at, 0) {
         NextString::Found(_) => true,
@@ -128,7 +128,7 @@ fn judge_line<A: Allocator>(
     ensures fits { Fits scratch.new query.now.machine }
     ensures text { IsTextAt (terminator_of query.now.text) bytes.now start result.0 }
     ensures hit { (trees : List Pattern) → AreTreesOf query.now.text trees
-        → result.1 ≡ has_hit (search_of query.now.text trees) (slice_range bytes.now start result.0) }
+        → result.1 ≡ has_match (search_of query.now.text trees) (slice_range bytes.now start result.0) }
 {
     let end = query.terminator();
     if asks_automaton(judge, end, &bytes[start..]) {

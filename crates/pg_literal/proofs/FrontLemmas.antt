@@ -13,7 +13,7 @@ use Rattle.pg_pattern.specs.Patterns.{Pattern, Set, Cat, Alt}
 use Rattle.pg_pattern.specs.Matches.{Match}
 use Rattle.pg_literal.specs.Rows.{StandsAt, row_of, row_along}
 use Rattle.pg_literal.specs.Known.{head_of, Extends}
-use Rattle.pg_literal.specs.Fronts.{IsFronted, IsFrontRow, IsWider, Leads}
+use Rattle.pg_literal.specs.Fronts.{IsFronted, IsFrontRow, IsWider, LeadsToRest}
 use Rattle.pg_literal.specs.declared.known.MatchFacts.{MatchFacts}
 use Rattle.pg_literal.proofs.FinderLemmas.{map_reverse}
 use Rattle.pg_literal.proofs.KnownLemmas.{alt_unspelled}
@@ -27,23 +27,23 @@ pushed sets new set is =
     ∙ reverse-append (map bytes sets) (bytes set ∷ [])
 
 -- the row that matches of a set in front of another one begin with
-pub leads_set : (set : Bytes) (rest : List Bytes) → Leads (Set set) rest (set ∷ rest)
+pub leads_set : (set : Bytes) (rest : List Bytes) → LeadsToRest (Set set) rest (set ∷ rest)
 leads_set set rest = record {
   stands = λ line i j m o. ((m.0, m.1, m.2), subst (StandsAt line rest) m.3 o);
   long = λ line i j m. omega (arith, m.3);
 }
 
 -- two patterns, one behind the other
-pub leads_cat : (p q : Pattern) (rest more whole : List Bytes) → Leads q rest more → Leads p more whole
-    → Leads (Cat p q) rest whole
+pub leads_cat : (p q : Pattern) (rest more whole : List Bytes) → LeadsToRest q rest more → LeadsToRest p more whole
+    → LeadsToRest (Cat p q) rest whole
 leads_cat p q rest more whole second first = record {
   stands = λ line i j m o. first.stands line i m.0 m.1 (second.stands line m.0 j m.2 o);
   long = λ line i j m. omega (arith, first.long line i m.0 m.1, second.long line m.0 j m.2);
 }
 
 -- one of two patterns
-leads_alt : (p q : Pattern) (rest whole : List Bytes) → Leads p rest whole → Leads q rest whole
-    → Leads (Alt p q) rest whole
+leads_alt : (p q : Pattern) (rest whole : List Bytes) → LeadsToRest p rest whole → LeadsToRest q rest whole
+    → LeadsToRest (Alt p q) rest whole
 leads_alt p q rest whole first second = record { stands = stands; long = long }
   where
     stands : (line : List ℕ) (i j : ℕ) → Match (Alt p q) line i j → StandsAt line rest j → StandsAt line whole i

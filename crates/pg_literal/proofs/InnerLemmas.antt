@@ -10,7 +10,7 @@ use Rattle.pg_pattern.specs.declared.bounds.Bounds.{Bounds}
 use Rattle.pg_pattern.specs.declared.bounds.Bounds.TheVariants.{Any}
 use Rattle.pg_literal.specs.Literals.{Holds, AreNeeded}
 use Rattle.pg_literal.specs.Added.{Adds}
-use Rattle.pg_literal.specs.Inner.{text_of, AreWithin, IsPart, IsPlain}
+use Rattle.pg_literal.specs.Inner.{text_of, AreInnerTexts, IsPart, IsNeededOnly}
 use Rattle.pg_literal.specs.declared.literal.Literal.{Literal}
 use Rattle.pg_pattern.proofs.LengthLemmas.{chain_forward, match_forward}
 use Rattle.pg_literal.proofs.KnownLemmas.{alt_unspelled, rep_unspelled, cat_spelled}
@@ -90,7 +90,7 @@ module _ (fold : Bool) (outer : Pattern) where
 
   -- the literals of an alternation
   pub within_alt : {A : Type 0} (p q : Pattern) (ls : List (Literal A)) → IsPart fold (Alt p q) outer
-      → AreNeeded fold (Alt p q ∷ []) Any ls → All IsPlain ls → AreWithin fold outer ls
+      → AreNeeded fold (Alt p q ∷ []) Any ls → All IsNeededOnly ls → AreInnerTexts fold outer ls
   within_alt p q ls part needed plain = record {
     needed = λ line hit. needed line (part.within line hit);
     plain = plain;
@@ -122,7 +122,7 @@ needed_texts {A} fold p bounds xs ys same needed line hit =
 
 -- literals of a part, which tell no more than that they are needed
 pub adds_within : {A : Type 0} (fold : Bool) (p : Pattern) (bounds : Bounds) (ls : List (Literal A))
-    → AreWithin fold p ls → Adds fold bounds p [] ls
+    → AreInnerTexts fold p ls → Adds fold bounds p [] ls
 adds_within {A} fold p bounds ls within = record {
   added = ls;
   joins = refl;

@@ -23,8 +23,9 @@ use Rattle.pg_pattern.specs.declared.bounds.Bounds.{Bounds}
 use Rattle.pg_pattern.specs.declared.bounds.Bounds.TheVariants.{Any}
 use Rattle.pg_bytes.specs.ByteSets.{bytes}
 use Rattle.pg_bytes.specs.Sets.{Bytes}
-use Rattle.pg_literal.specs.Literals.{as_searched, Holds, IsEnough, AreEnough, AreHeads, AreTexts}
-use Rattle.pg_literal.specs.Rows.{StandsAt, items_of, row_of, AreProduct, Multiplies}
+use Rattle.pg_literal.specs.Literals.{as_searched, Holds, IsEnoughText, AreEnough, AreHeads, AreTexts}
+use Rattle.pg_literal.specs.Rows.{StandsAt, row_of, AreProduct, Multiplies}
+use Rattle.pg_pattern.specs.Strings.{items_of}
 use Rattle.pg_bytes.specs.declared.byte_set.ByteSet.{ByteSet}
 use Rattle.pg_literal.specs.declared.known.ChosenPart.{ChosenPart}
 use Rattle.pg_literal.specs.Known.{IsChosen, head_of, best_of, sets_of, IsNothing, HasRows, IsSureAt, Extends}
@@ -92,8 +93,8 @@ pub enough_for_all : {A : Type 0} (fold : Bool) (ps : List Pattern) (p : Pattern
     (ls : List (Literal A))
     → Contains ps p → AreEnough fold (p ∷ []) bounds ls → AreEnough fold ps bounds ls
 enough_for_all {A} fold ps p bounds ls among enough =
-    All-weaker (λ l. IsTrue l.is_enough → IsEnough fold (p ∷ []) bounds l.text.items)
-    (λ l. IsTrue l.is_enough → IsEnough fold ps bounds l.text.items)
+    All-weaker (λ l. IsTrue l.is_enough → IsEnoughText fold (p ∷ []) bounds l.text.items)
+    (λ l. IsTrue l.is_enough → IsEnoughText fold ps bounds l.text.items)
     (λ l says yes line held. hit_of_all ps p bounds line among (says yes line held)) ls enough
 
 -- an element of either part
@@ -150,7 +151,7 @@ module _ {A : Type 0} (fold : Bool) (bounds : Bounds) (p q : Pattern) where
   adds_alt old mid new second first =
       let Held : List ℕ → Literal A → Type 0 = λ line l. Holds fold line l.text.items in
       let Enough : Pattern → Literal A → Type 0 =
-      λ r l. IsTrue l.is_enough → IsEnough fold (r ∷ []) bounds l.text.items in
+      λ r l. IsTrue l.is_enough → IsEnoughText fold (r ∷ []) bounds l.text.items in
       record {
         added = second.added ++ first.added;
         joins = first.joins ∙ (ap (λ xs. xs ++ first.added) second.joins ∙ append_assoc old second.added first.added);
@@ -514,7 +515,7 @@ module _ {A : Type 0} (fold : Bool) (bounds : Bounds) (ps : List Pattern) (i : �
   -- they are as enough
   pub enough_more : AreEnough fold ps bounds old → AreEnough fold ps bounds new
   enough_more known =
-      let Enough : Literal A → Type 0 = λ l. IsTrue l.is_enough → IsEnough fold ps bounds l.text.items in
+      let Enough : Literal A → Type 0 = λ l. IsTrue l.is_enough → IsEnoughText fold ps bounds l.text.items in
       subst (λ ls. All Enough ls) (sym adds.joins) (All-append Enough old adds.added known
       (enough_for_all fold ps p bounds adds.added (i, below, at) adds.enough))
 

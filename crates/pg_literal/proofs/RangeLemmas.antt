@@ -13,7 +13,7 @@ use Rattle.std.proofs.lemmas.Simd.{bitmask_splat, first_set_mask_l}
 use Rattle.std.proofs.lemmas.Bool.{eq-eqb, ne_eqb, cond-true, cond-false, cases_lt, le-leb}
 use lib.Count.{count_trailing_zeros}
 use lib.Lanes.{zip2, sel_l, top, chunk, mask_l}
-use Rattle.pg_literal.specs.Ranges.{mark}
+use Rattle.pg_literal.specs.Ranges.{bit_of}
 
 -- the lanes that pass a test, as ones
 pub select_ones : (p : ℕ → Bool) (xs : List ℕ) (n : ℕ) → length xs ≡ n
@@ -25,11 +25,11 @@ select_ones p (x ∷ xs) (suc n) long =
 
 -- the lanes that pass one of two tests
 pub mark_either : (p q : ℕ → Bool) (xs : List ℕ)
-    → map (λ x. bit_or (mark (p x)) (mark (q x))) xs ≡ map (λ x. mark (p x || q x)) xs
+    → map (λ x. bit_or (bit_of (p x)) (bit_of (q x))) xs ≡ map (λ x. bit_of (p x || q x)) xs
 mark_either p q [] = refl
 mark_either p q (x ∷ xs) = ap₂ (λ n ns. n ∷ ns) (either (p x) (q x)) (mark_either p q xs)
   where
-    either : (a b : Bool) → bit_or (mark a) (mark b) ≡ mark (a || b)
+    either : (a b : Bool) → bit_or (bit_of a) (bit_of b) ≡ bit_of (a || b)
     either true true = refl
     either true false = refl
     either false true = refl
@@ -39,13 +39,13 @@ mark_either p q (x ∷ xs) = ap₂ (λ n ns. n ∷ ns) (either (p x) (q x)) (mar
 pub marks_below : (f : ℕ → ℕ) (xs ys : List ℕ) (n bound : ℕ) → length xs ≡ n → ys ≡ map f xs
     → sel_l {A = ℕ} (map (top 7) (zip2 (λ a b. cond (leb a b) 255 0) ys (replicate n bound))) (replicate n 1)
     (replicate n 0)
-    ≡ map (λ x. mark (leb (f x) bound)) xs
+    ≡ map (λ x. bit_of (leb (f x) bound)) xs
 marks_below f xs ys n bound long is =
     let size : length (map f xs) ≡ n = length-map xs f ∙ long in
     ap (λ ms. sel_l {A = ℕ} ms (replicate n 1) (replicate n 0))
     (tops_compared w8 leb ys (replicate n bound)
     ∙ (ap (λ zs. zip2 leb zs (replicate n bound)) is ∙ zip2_splat leb (map f xs) n bound size))
-    ∙ (select_ones (λ x. leb x bound) (map f xs) n size ∙ map-map (λ x. mark (leb x bound)) f xs)
+    ∙ (select_ones (λ x. leb x bound) (map f xs) n size ∙ map-map (λ x. bit_of (leb x bound)) f xs)
 
 -- the byte, or the same 256 higher, is in a stretch of 256
 pub around : (first b : ℕ) → first ≤ 256 → b < 256
@@ -74,11 +74,11 @@ all_around P Q first bound each b less is = elim (around first b bound less) [
 
 -- the lane of a byte that passes a test
 pub marked_at : (f : ℕ → Bool) (xs : List ℕ) (i n k : ℕ) (fs : List ℕ) → i + n ≤ length xs
-    → fs ≡ map (λ x. mark (f x)) (chunk i n xs) → k < n → f (slice_index xs (i + k)) ≡ true → get_or fs k 0 ≡ 1
+    → fs ≡ map (λ x. bit_of (f x)) (chunk i n xs) → k < n → f (slice_index xs (i + k)) ≡ true → get_or fs k 0 ≡ 1
 marked_at f xs i n k fs below are less is =
     ap (λ l. get_or l k 0) are
-    ∙ (get_or-map (λ x. mark (f x)) (chunk i n xs) k 0 0 (omega (arith, length-chunk i n xs below))
-    ∙ (ap (λ x. mark (f x)) (get_or-chunk i n xs k 0 less) ∙ ap mark is))
+    ∙ (get_or-map (λ x. bit_of (f x)) (chunk i n xs) k 0 0 (omega (arith, length-chunk i n xs below))
+    ∙ (ap (λ x. bit_of (f x)) (get_or-chunk i n xs k 0 less) ∙ ap bit_of is))
 
 module _ (fs gs : List ℕ) (n : ℕ) (few : n ≤ 64) (first_size : length fs ≡ n) (second_size : length gs ≡ n) where
   abbrev both : List ℕ

@@ -20,7 +20,8 @@ use Rattle.pg_pattern.specs.Patterns.{folded}
 use Rattle.pg_literal.proofs.FoldLemmas.{searched_byte, byte_of_searched, length_searched, searched_again}
 use Rattle.pg_literal.proofs.FoldLemmas.{searched_one, searched_append, folded_alone, alone_once}
 use Rattle.pg_literal.specs.Literals.{as_searched}
-use Rattle.pg_literal.specs.Rows.{StandsAt, items_of, row_of, byte_as_searched, IsAlone, AreChoices, AreProduct}
+use Rattle.pg_literal.specs.Rows.{StandsAt, row_of, byte_as_searched, IsAlone, AreChoices, AreProduct}
+use Rattle.pg_pattern.specs.Strings.{items_of}
 use Rattle.pg_literal.specs.Known.{sets_of}
 
 -- the empty text stands everywhere

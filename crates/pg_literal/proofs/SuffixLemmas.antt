@@ -12,7 +12,7 @@ use Rattle.pg_pattern.specs.Matches.{Match}
 use Rattle.pg_pattern.specs.declared.bounds.Bounds.{Bounds}
 use Rattle.pg_pattern.specs.declared.bounds.Bounds.TheVariants.{Any}
 use Rattle.pg_literal.specs.Rows.{StandsAt, row_of}
-use Rattle.pg_literal.specs.Suffixes.{EndsWith, IsExactRow, IsSuffix, suffix_row}
+use Rattle.pg_literal.specs.Suffixes.{IsSuffixAt, IsExactRow, IsSuffix, suffix_row}
 use Rattle.pg_literal.specs.declared.suffix.LineSuffix.{LineSuffix}
 use Rattle.pg_literal.proofs.LiteralLemmas.{alone_matched, in_one}
 use Rattle.pg_literal.proofs.RowLemmas.{stands_append}
@@ -121,7 +121,7 @@ ends_more line sets d k b less within at in_set behind =
 
 -- where all sets stand, each does
 pub ends_each : (line : List ℕ) (sets : List ByteSet) (d : ByteSet) (k i : ℕ) → k < length sets
-    → EndsWith line (row_of sets) i
+    → IsSuffixAt line (row_of sets) i
     → (b : ℕ) × (slice_get line (length line - 1 - k) ≡ Some b) × (bytes (get_or sets k d) b ≡ true)
 ends_each line sets d k i less ends =
     let set = get_or sets k d in

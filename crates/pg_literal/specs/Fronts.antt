@@ -8,13 +8,13 @@ use Rattle.pg_literal.specs.Known.{head_of}
 use Rattle.pg_literal.specs.declared.known.MatchFacts.{MatchFacts}
 
 -- matches of the pattern that lead to the rest begin at the whole, and are as long as what they add to it
-pub record Leads (p : Pattern) (rest whole : List Bytes) : Type 0 where
+pub record LeadsToRest (p : Pattern) (rest whole : List Bytes) : Type 0 where
   pub stands : (line : List ℕ) (i j : ℕ) → Match p line i j → StandsAt line rest j → StandsAt line whole i
   pub long : (line : List ℕ) (i j : ℕ) → Match p line i j → i + length whole ≤ j + length rest
 
 -- each match of the pattern has a byte of each set of the row, and what follows it stands behind these
 abbrev pub IsFrontRow : Pattern → List Bytes → Type 0
-IsFrontRow p row = (rest : List Bytes) → Leads p rest (row ++ rest)
+IsFrontRow p row = (rest : List Bytes) → LeadsToRest p rest (row ++ rest)
 
 -- the other row has as many sets, and stands wherever the first one does
 abbrev pub IsWider : List Bytes → List Bytes → Type 0

@@ -14,8 +14,8 @@ abbrev pub text_of : {A : Type 0} → Literal A → List ℕ
 text_of literal = literal.text.items
 
 -- the literal says no more than that it may be needed
-abbrev pub IsPlain : {A : Type 0} → Literal A → Type 0
-IsPlain literal = (literal.is_enough ≡ false) × (literal.is_head ≡ false)
+abbrev pub IsNeededOnly : {A : Type 0} → Literal A → Type 0
+IsNeededOnly literal = (literal.is_enough ≡ false) × (literal.is_head ≡ false)
 
 -- Wherever the outer pattern matches a part of a line, the inner one does. Where a fixed string spells the outer one,
 -- one spells the inner one.
@@ -25,7 +25,7 @@ pub record IsPart (fold : Bool) (inner outer : Pattern) : Type 0 where
 
 -- Each line with a match of the pattern holds one of the texts, of which no more is known. No fixed string spells the
 -- pattern.
-pub record AreWithin {A : Type 0} (fold : Bool) (p : Pattern) (literals : List (Literal A)) : Type 0 where
+pub record AreInnerTexts {A : Type 0} (fold : Bool) (p : Pattern) (literals : List (Literal A)) : Type 0 where
   pub needed : AreNeeded fold (p ∷ []) Any literals
-  pub plain : All IsPlain literals
+  pub plain : All IsNeededOnly literals
   pub unspelled : (text : List ℕ) → Spells Fixed fold text p → ⊥

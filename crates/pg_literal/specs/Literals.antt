@@ -28,13 +28,13 @@ AreHeads fold patterns bounds literals =
     → (i < j) × Any (λ literal. OccursAt (as_searched fold line) literal.text.items i) literals
 
 -- each line that holds the text has a hit
-abbrev pub IsEnough : Bool → List Pattern → Bounds → List ℕ → Type 0
-IsEnough fold patterns bounds text = (line : List ℕ) → Holds fold line text → HasHit patterns bounds line
+abbrev pub IsEnoughText : Bool → List Pattern → Bounds → List ℕ → Type 0
+IsEnoughText fold patterns bounds text = (line : List ℕ) → Holds fold line text → HasHit patterns bounds line
 
 -- each line that holds a text whose flag is set has a hit
 abbrev pub AreEnough : {A : Type 0} → Bool → List Pattern → Bounds → List (Literal A) → Type 0
 AreEnough fold patterns bounds literals =
-    All (λ literal. IsTrue literal.is_enough → IsEnough fold patterns bounds literal.text.items) literals
+    All (λ literal. IsTrue literal.is_enough → IsEnoughText fold patterns bounds literal.text.items) literals
 
 -- these are the texts, and each of them is enough
 pub record AreTexts {A : Type 0} (wanted : List (List ℕ)) (literals : List (Literal A)) : Type 0 where

@@ -19,5 +19,5 @@ covered (Two pair) b = in_pair pair b
 covered (Four pair other) b = in_pair pair b || in_pair other b
 
 -- one where a test is passed, and zero elsewhere
-abbrev pub mark : Bool → ℕ
-mark is_passed = if is_passed then 1 else 0
+abbrev pub bit_of : Bool → ℕ
+bit_of is_passed = if is_passed then 1 else 0

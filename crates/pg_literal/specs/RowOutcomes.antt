@@ -14,7 +14,7 @@ FindsRow bytes row NotFound = Nowhere (StandsAt bytes row) 0 (length bytes)
 FindsRow bytes row GaveUp = Unit {0}
 
 -- On from a place past others at none of which the row stands, to one at which it may stand, or else past some.
-pub record Passes (bytes : List ℕ) (row : List Bytes) (at : ℕ) (skip : Skip) : Type 0 where
+pub record PassesPlaces (bytes : List ℕ) (row : List Bytes) (at : ℕ) (skip : Skip) : Type 0 where
   pub within : at + skip.places ≤ length bytes
   pub candidate : IsTrue skip.is_candidate → at + skip.places < length bytes
   pub none : (k : ℕ) → k < skip.places → StandsAt bytes row (at + k) → ⊥

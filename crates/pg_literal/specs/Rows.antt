@@ -15,10 +15,6 @@ StandsAt line [] i = i ≤ length line
 StandsAt line (set ∷ sets) i =
     ((b : ℕ) × (slice_get line i ≡ Some b) × (set b ≡ true)) × StandsAt line sets (i + 1)
 
--- the bytes of a text
-abbrev pub items_of : {A : Type 0} → Vec ℕ A → List ℕ
-items_of text = text.items
-
 -- the row, forwards, of sets that lie backwards
 abbrev pub row_of : List ByteSet → List Bytes
 row_of sets = reverse (map bytes sets)

@@ -15,13 +15,13 @@ pub record IsExactRow (p : Pattern) (row : List Bytes) : Type 0 where
       → Match p line i j ↔ (StandsAt line row i × (i + length row ≡ j))
 
 -- the row stands from a place on, and the line ends behind it
-abbrev pub EndsWith : List ℕ → List Bytes → ℕ → Type 0
-EndsWith line row i = StandsAt line row i × (i + length row ≡ length line)
+abbrev pub IsSuffixAt : List ℕ → List Bytes → ℕ → Type 0
+IsSuffixAt line row i = StandsAt line row i × (i + length row ≡ length line)
 
 -- the hits are the places where the row stands and the line ends behind it; the row isn't empty
 pub record IsSuffix (patterns : List Pattern) (bounds : Bounds) (row : List Bytes) : Type 0 where
   pub some : 0 < length row
-  pub hits : (line : List ℕ) (i j : ℕ) → Hit patterns bounds line i j ↔ (EndsWith line row i × (j ≡ length line))
+  pub hits : (line : List ℕ) (i j : ℕ) → Hit patterns bounds line i j ↔ (IsSuffixAt line row i × (j ≡ length line))
 
 -- the sets of a suffix, forwards
 abbrev pub suffix_row : {A : Type 0} → LineSuffix A → List Bytes

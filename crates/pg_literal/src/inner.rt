@@ -5,7 +5,7 @@ ghost use Rattle.pg_pattern.specs.Patterns.{Pattern};
 ghost use Rattle.pg_pattern.specs.Trees.{pattern};
 ghost use Rattle.pg_pattern.specs.declared.bounds.Bounds.TheVariants.{Any};
 ghost use Rattle.pg_literal.specs.Literals.{AreNeeded};
-ghost use Rattle.pg_literal.specs.Inner.{text_of, AreWithin, IsPart, IsPlain};
+ghost use Rattle.pg_literal.specs.Inner.{text_of, AreInnerTexts, IsPart, IsNeededOnly};
 
 use crate::literal::{Literal, cost_of, push_literals, single};
 use pg_pattern::{Bounds, Tree};
@@ -14,7 +14,7 @@ use std::alloc::{AllocError, Allocator};
 /// Forgets what a literal would tell of the alternation alone.
 fn forget_flags<A: Allocator>(literal: &mut Literal<A>)
     ensures text { literal.new.text ≡ literal.old.text }
-    ensures plain { IsPlain literal.new }
+    ensures plain { IsNeededOnly literal.new }
 {
     literal.is_enough = false;
     literal.is_head = false;
@@ -23,7 +23,7 @@ fn forget_flags<A: Allocator>(literal: &mut Literal<A>)
 /// The literals, with both flags forgotten.
 fn plain_of<A: Allocator>(mut literals: Vec<Literal<A>, A>) -> Vec<Literal<A>, A>
     ensures texts { map text_of result.items ≡ map text_of literals.items }
-    ensures plain { All IsPlain result.items }
+    ensures plain { All IsNeededOnly result.items }
 {
     for literal in literals.iter_mut() {
         forget_flags(literal);
@@ -39,7 +39,7 @@ fn better_of<A: Allocator + Copy>(
     best: Vec<Literal<A>, A>,
 ) -> Result<Vec<Literal<A>, A>, AllocError>
     ensures { IfOk result (λ found. (found ≡ best)
-        ⊎ (AreNeeded fold (pattern tree.now ∷ []) Any found.items × All IsPlain found.items)) }
+        ⊎ (AreNeeded fold (pattern tree.now ∷ []) Any found.items × All IsNeededOnly found.items)) }
 {
     let mut literals = Vec::new(alloc);
     let found = push_literals(alloc, tree, Bounds::Any, single(fold), &mut literals)?;
@@ -62,8 +62,8 @@ pub(crate) fn inner_of<A: Allocator + Copy>(
     mut best: Vec<Literal<A>, A>,
 ) -> Result<Vec<Literal<A>, A>, AllocError>
     ensures { (outer : Pattern) → IsPart fold (pattern tree.now) outer
-        → (0 < length best.items → AreWithin fold outer best.items)
-        → IfOk result (λ found. 0 < length found.items → AreWithin fold outer found.items) }
+        → (0 < length best.items → AreInnerTexts fold outer best.items)
+        → IfOk result (λ found. 0 < length found.items → AreInnerTexts fold outer found.items) }
 {
     let mut tree = tree;
     loop {

@@ -2,7 +2,7 @@
 ghost use Rattle.std.specs.Prelude.{◌≡◌, ◌+◌, ◌-◌, ◌%◌, ◌<◌, ◌≤◌, ℕ, true, length, map};
 ghost use Rattle.std.specs.Prelude.{slice_index, get_or, ◌||◌};
 ghost use Rattle.pg_bytes.specs.ByteSets.{bytes};
-ghost use Rattle.pg_literal.specs.Ranges.{covered, in_pair, in_range, mark};
+ghost use Rattle.pg_literal.specs.Ranges.{covered, in_pair, in_range, bit_of};
 
 use crate::cost::chance_of_byte;
 use pg_bytes::ByteSet;
@@ -125,7 +125,7 @@ fn range_between(set: &ByteSet, start: u16, stop: u16) -> ByteRange
 /// For each of 32 bytes one where it is in a range, and zero elsewhere.
 #[inline(always)]
 fn marks_in(range: ByteRange, lanes: u8x32) -> u8x32
-    ensures { result ≡ map (λ b. mark (in_range range b)) lanes }
+    ensures { result ≡ map (λ b. bit_of (in_range range b)) lanes }
 {
     (lanes - u8x32::splat(range.low))
         .simd_le(u8x32::splat(range.span))
@@ -159,7 +159,7 @@ impl RangePair {
     /// For each of 32 bytes one where it is in one of the ranges, and zero elsewhere.
     #[inline(always)]
     fn marks(self, lanes: u8x32) -> u8x32
-        ensures { result ≡ map (λ b. mark (in_pair self b)) lanes }
+        ensures { result ≡ map (λ b. bit_of (in_pair self b)) lanes }
     {
         marks_in(self.first, lanes) | marks_in(self.second, lanes)
     }

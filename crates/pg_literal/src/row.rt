@@ -5,7 +5,8 @@ ghost use Rattle.std.specs.Prelude.{IsTrue, IsSomeAnd, OnOk, nat_eq, ◌&&◌, i
 ghost use Rattle.std.specs.List.{flat_map};
 ghost use Rattle.pg_bytes.specs.ByteSets.{bytes};
 ghost use Rattle.pg_literal.specs.Literals.{as_searched};
-ghost use Rattle.pg_literal.specs.Rows.{items_of, byte_as_searched, row_of, IsAlone, AreChoices, AreProduct};
+ghost use Rattle.pg_literal.specs.Rows.{byte_as_searched, row_of, IsAlone, AreChoices, AreProduct};
+ghost use Rattle.pg_pattern.specs.Strings.{items_of};
 ghost use Rattle.pg_literal.specs.Known.{sets_of};
 
 use crate::cost::{FEW_TEXTS, RAREST, rarity_of};

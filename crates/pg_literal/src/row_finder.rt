@@ -9,7 +9,7 @@ ghost use Rattle.pg_pattern.specs.declared.bounds.Bounds.TheVariants.{Any};
 ghost use Rattle.pg_literal.specs.Rows.{row_of, row_along, StandsAt};
 ghost use Rattle.pg_literal.specs.CoveredSets.{IsCoveredSet, IsOnlyByte};
 ghost use Rattle.pg_literal.specs.Needed.{without, IsEnoughRow, IsNeeded, NeedsRow, IsSureRow};
-ghost use Rattle.pg_literal.specs.RowOutcomes.{FindsRow, Passes};
+ghost use Rattle.pg_literal.specs.RowOutcomes.{FindsRow, PassesPlaces};
 
 use crate::cost::{byte_cost, chance_of, has_use, is_cheaper, sets_cost, tells_more};
 use crate::covered::{CoveredSet, OnlyByte, covered_at, only_byte_at, rarest_two};
@@ -225,7 +225,7 @@ impl<A: Allocator> RowFinder<A> {
     fn skip_by_byte(&self, only: OnlyByte, bytes: &[u8], at: usize) -> Skip
         requires only { IsOnlyByte (row_along self.now.sets.items) only }
         requires within { at + only.offset < length bytes.now }
-        ensures { Passes bytes.now (row_along self.now.sets.items) at result }
+        ensures { PassesPlaces bytes.now (row_along self.now.sets.items) at result }
     {
         let rest = &bytes[at + only.offset..];
         match memchr(only.byte, rest) {
@@ -244,7 +244,7 @@ impl<A: Allocator> RowFinder<A> {
     #[inline(always)]
     fn skip_by_sets(&self, bytes: &[u8], at: usize) -> Skip
         requires { at + self.now.far.offset + 32 ≤ length bytes.now }
-        ensures { Passes bytes.now (row_along self.now.sets.items) at result }
+        ensures { PassesPlaces bytes.now (row_along self.now.sets.items) at result }
     {
         let distance = self.far.offset - self.near.offset;
         let start = at + self.near.offset;
@@ -259,7 +259,7 @@ impl<A: Allocator> RowFinder<A> {
     #[inline(always)]
     fn next_candidate(&self, bytes: &[u8], at: usize) -> Skip
         requires { at + length self.now.sets.items + 32 ≤ length bytes.now }
-        ensures { Passes bytes.now (row_along self.now.sets.items) at result }
+        ensures { PassesPlaces bytes.now (row_along self.now.sets.items) at result }
     {
         match self.only {
             Some(only) => self.skip_by_byte(only, bytes, at),

@@ -3,7 +3,7 @@ ghost use Rattle.std.specs.Prelude.{◌≡◌, ℕ, IsTrue, IfOk, IfSome, MatchO
 ghost use Rattle.pg_pattern.specs.Patterns.{Pattern, Cat, End};
 ghost use Rattle.pg_pattern.specs.Trees.{pattern};
 ghost use Rattle.pg_literal.specs.Rows.{row_of};
-ghost use Rattle.pg_literal.specs.Suffixes.{EndsWith, IsExactRow, IsSuffix, suffix_row};
+ghost use Rattle.pg_literal.specs.Suffixes.{IsSuffixAt, IsExactRow, IsSuffix, suffix_row};
 
 use crate::sets::only_set;
 use pg_bytes::ByteSet;
@@ -96,8 +96,8 @@ impl<A: Allocator> LineSuffix<A> {
 
     /// Where it begins in a line that ends with it; `None` for other lines.
     pub fn find(&self, line: &[u8]) -> Option<usize>
-        ensures { MatchOption result ((i : ℕ) → EndsWith line.now (suffix_row self.now) i → ⊥)
-            (EndsWith line.now (suffix_row self.now)) }
+        ensures { MatchOption result ((i : ℕ) → IsSuffixAt line.now (suffix_row self.now) i → ⊥)
+            (IsSuffixAt line.now (suffix_row self.now)) }
     {
         if line.len() < self.sets.len() {
             return None;

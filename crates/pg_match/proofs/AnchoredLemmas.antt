@@ -11,10 +11,10 @@ use Rattle.pg_match.specs.Anchored.{NothingBefore, TellsKnownSpan, known_span_of
 use Rattle.pg_match.specs.Anchored.{IsLongestFrom}
 use Rattle.pg_match.specs.Automata.{Nfa, Runs, IsRunnable}
 use Rattle.pg_pattern.specs.Bounds.{MayBegin, MayEnd}
-use Rattle.pg_match.specs.Dfas.{Dfa, ended, flag_at, In, Same, IsShape, IsBlank, Keeps}
+use Rattle.pg_match.specs.Dfas.{Dfa, answer_at_end, flag_at, In, Same, IsShape, IsBlank, KeepsRows}
 use Rattle.pg_match.specs.Dfas.{Grown, Marked, MarkedEnd, IsAtRow}
 use Rattle.pg_match.specs.Searches.{IsBest}
-use Rattle.pg_match.specs.Starts.{GoesOn}
+use Rattle.pg_match.specs.Starts.{ByteLeads}
 use Rattle.pg_match.specs.StateSets.{Members, mark, IsGood}
 use Rattle.pg_match.specs.Steps.{Has, Starts, ReadsNone, HitAtEnd, NoHitAtEnd, AnswersEnd}
 use Rattle.pg_match.specs.Views.{dfa, CachesAnchoredDfaOf}
@@ -60,7 +60,7 @@ best_behind m l from start (Some b) later none best = (
 )
 
 -- where no start is added, a step goes alone
-pub gone_alone : (t : List State) (seeds : List ℕ) (b : ℕ) (S U : ℕ → Type 0) → GoesOn t seeds b (IsTrue false) S U
+pub gone_alone : (t : List State) (seeds : List ℕ) (b : ℕ) (S U : ℕ → Type 0) → ByteLeads t seeds b (IsTrue false) S U
     → GoesAlone t b S U
 gone_alone t seeds b S U g = record {
   comes = λ r h. let w = g.comes r h in elim w.2 [
@@ -365,12 +365,12 @@ module _ (m : Nfa) (t : Dfa) (is : IsAnchoredDfaOf m t) where
         (λ e. absurd (omega arith))
 
   -- what a row's answer at a line's end says
-  pub ends_told : (r : ℕ) (read : Option Bool) (told answer : Bool) → read ≡ ended t r → read ≡ Some told
+  pub ends_told : (r : ℕ) (read : Option Bool) (told answer : Bool) → read ≡ answer_at_end t r → read ≡ Some told
       → told ≡ answer → AnswersEnd m false (In t r) answer
   ends_told r read told answer here so same =
       subst (AnswersEnd m false (In t r)) same (is.told_end r told (sym here ∙ so)).1
 
-told_moves : (m : Nfa) (old new : Dfa) (r b v : ℕ) → Keeps old new → r ≤ old.count → ToldAlone m old r b v
+told_moves : (m : Nfa) (old new : Dfa) (r b v : ℕ) → KeepsRows old new → r ≤ old.count → ToldAlone m old r b v
     → ToldAlone m new r b v
 told_moves m old new r b v k le (inl unknown) = inl unknown
 told_moves m old new r b v k le (inr (inl dead)) =
@@ -386,12 +386,12 @@ told_moves m old new r b v k le (inr (inr go)) =
     ))
 
 -- the DFA of a cache that keeps the rows, where each step is blank, or is an old one, or is told
-moved : (m : Nfa) (old new : Dfa) → IsAnchoredDfaOf m old → IsShape (length m.states) new → Keeps old new
+moved : (m : Nfa) (old new : Dfa) → IsAnchoredDfaOf m old → IsShape (length m.states) new → KeepsRows old new
     → ((r b : ℕ) → r ≤ new.count → b < 256 → (slice_index new.steps (256 * r + b) ≡ slice_index old.steps (256 * r + b))
     ⊎ ToldAlone m new r b (slice_index new.steps (256 * r + b)))
     → ((i : ℕ) → 256 * (new.count + 1) ≤ i → slice_index new.steps i ≡ slice_index old.steps i)
     → ((r : ℕ) → old.count < r → r ≤ new.count → (flag_at new r ≡ true) ↔ In new r 0)
-    → ((r : ℕ) (answer : Bool) → ended new r ≡ Some answer → (ended old r ≡ Some answer)
+    → ((r : ℕ) (answer : Bool) → answer_at_end new r ≡ Some answer → (answer_at_end old r ≡ Some answer)
     ⊎ ((r ≤ new.count) × AnswersEnd m false (In new r) answer))
     → (old.count < 1 → 1 ≤ new.count → Starts m false (In new 1))
     → (old.count < 2 → 2 ≤ new.count → Starts m true (In new 2)) → IsAnchoredDfaOf m new
@@ -512,7 +512,7 @@ alone_marked_end m old new r answer is w le told =
     let n = w.sets.count in
     let few = is.shape.few in
     let size = is.shape.ends_size in
-    let here : ended new r ≡ Some answer =
+    let here : answer_at_end new r ≡ Some answer =
     ap (λ u. get_or u r None) w.ends ∙ get_or-set_same old.ends r (Some answer) None (omega arith) in
     moved m old new is
     (sets_shape (length m.states) old new is.shape w.sets (ap length w.steps)
@@ -521,7 +521,7 @@ alone_marked_end m old new r answer is w le told =
     (λ i past. ap (λ u. slice_index u i) w.steps) (λ r' later upto. absurd (omega arith))
     (λ r' answer' e. elim (cases_eq r' r) [
       | inl same ↦
-          let both : Some answer' ≡ Some answer = sym e ∙ ap (ended new) same ∙ here in
+          let both : Some answer' ≡ Some answer = sym e ∙ ap (answer_at_end new) same ∙ here in
           let is_so : answer ≡ answer' = sym (same_some answer' answer both) in
           inr (
             omega arith,
@@ -538,7 +538,7 @@ alone_marked_end m old new r answer is w le told =
 
 -- where the byte leads from row r of the cache: to row k
 pub told_alone : (m : Nfa) (old mid : Dfa) (r b k v : ℕ) (s u : Members) → v ≡ 256 * k → 1 ≤ k → k ≤ mid.count
-    → r ≤ old.count → Keeps old mid → Same (In old r) (Has s) → GoesAlone m.states b (Has s) (Has u)
+    → r ≤ old.count → KeepsRows old mid → Same (In old r) (Has s) → GoesAlone m.states b (Has s) (Has u)
     → Same (Has u) (In mid k) → ToldAlone m mid r b v
 told_alone m old mid r b k v s u e ge le le_r keeps from goes to =
     let back = same_on (Has s) (In old r) (In mid r) (same_back (In old r) (Has s) from) (keeps.sets r le_r) in

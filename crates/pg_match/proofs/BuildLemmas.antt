@@ -14,7 +14,7 @@ use Rattle.pg_pattern.specs.declared.bounds.Bounds.{Bounds}
 use Rattle.pg_pattern.specs.Patterns.{IsProper, Pattern}
 use Rattle.pg_match.specs.Sizes.{size_of, list_size}
 use Rattle.pg_match.specs.Automata.{Runs, target_below, Nfa, IsRunnable}
-use Rattle.pg_match.specs.Tables.{Alternatives, HasFirst, Keeps, Pushed, Added}
+use Rattle.pg_match.specs.Tables.{Alternatives, HasFirst, KeepsStates, Pushed, Added}
 use Rattle.pg_match.specs.Machines.{Agrees, IsMachineOf}
 use Rattle.pg_match.specs.declared.state.State.{State}
 use Rattle.pg_match.specs.declared.state.State.TheVariants.{Accept, Split}
@@ -70,7 +70,7 @@ module _ (t : List State) (l : List ℕ) (trees : List Pattern) (accept : slice_
         (suc run.0, by_edge t l e run.0 i j a.3 i (Split a.2 a.3) a.4 (inr refl, refl) run.1)
   ]
 
-alternatives_kept : (a b : List State) (trees : List Pattern) → Keeps a b → (k e : ℕ) → Alternatives a trees k e 0
+alternatives_kept : (a b : List State) (trees : List Pattern) → KeepsStates a b → (k e : ℕ) → Alternatives a trees k e 0
     → Alternatives b trees k e 0
 alternatives_kept a b trees keeps zero e h = (h.0, h.1, implements_kept a b (λ q s other g. keeps q s g) h.0 e 0 h.2)
 alternatives_kept a b trees keeps (suc k) e h = (

@@ -13,10 +13,10 @@ use Rattle.pg_match.specs.Closures.{AllBelow}
 use Rattle.pg_match.specs.StateSets.{Members, mark, listed, IsGood, Inserted}
 use Rattle.pg_match.specs.Steps.{Has, Goes, Starts, HitBefore, AnswersEnd, ReadsNone}
 use Rattle.pg_match.specs.Stands.{Stands, HasRun}
-use Rattle.pg_match.specs.Dfas.{Dfa, cut, ended, flag_at, In, Same, IsShape, Told, IsDfaOf}
-use Rattle.pg_match.specs.Dfas.{IsUnknown, IsHopeless, IsBlank, Keeps, Grown, SameSets, Marked, MarkedEnd}
-use Rattle.pg_match.specs.Dfas.{HasRoom, Widened}
-use Rattle.pg_match.specs.Dfas.{IsAtRow, StandsAt, Learned, Finishes, Settles}
+use Rattle.pg_match.specs.Dfas.{Dfa, cut, answer_at_end, flag_at, In, Same, IsShape, Told, IsDfaOf}
+use Rattle.pg_match.specs.Dfas.{IsUnknown, IsHopeless, IsBlank, KeepsRows, Grown, SameSets, Marked, MarkedEnd}
+use Rattle.pg_match.specs.Dfas.{HasRowRoom, Widened}
+use Rattle.pg_match.specs.Dfas.{IsAtRow, IsRowAt, Learned, Finishes, Settles}
 use Rattle.pg_match.specs.Views.{dfa, CachesDfaOf}
 use Rattle.pg_match.specs.declared.dfa_cache.Cache.{Cache}
 use Rattle.pg_match.specs.declared.dfa_search.Next.TheVariants.{Row, Lost}
@@ -83,7 +83,7 @@ same_list table r start s good from to eqs q = (
 
 pub grown : (n : ℕ) (old mid new : Dfa) (s : Members) (start : ℕ) (flag : Bool) → IsShape n old → IsGood s
     → n ≡ length s.marks → start ≡ cut old (old.count + 1)
-    → HasRoom old s.len → Copying old mid s start s.len → new.steps ≡ mid.steps
+    → HasRowRoom old s.len → Copying old mid s start s.len → new.steps ≡ mid.steps
     → new.ends ≡ mid.ends → new.pool ≡ mid.pool
     → new.cuts ≡ set mid.cuts (mid.count + 2) (start + s.len) → new.count ≡ mid.count + 1
     → new.flags ≡ set mid.flags (mid.count + 1) flag → Grown n old new s flag
@@ -245,7 +245,7 @@ stands_at m l from p S U same s = record {
 pub nothing_known : (v : ℕ) → v ≡ 0 → IsUnknown v
 nothing_known v zero_v = (omega arith, λ one. omega arith, λ two. omega arith)
 
-told_moves : (m : Nfa) (old new : Dfa) (r b v : ℕ) → Keeps old new → r ≤ old.count → Told m old r b v
+told_moves : (m : Nfa) (old new : Dfa) (r b v : ℕ) → KeepsRows old new → r ≤ old.count → Told m old r b v
     → Told m new r b v
 told_moves m old new r b v k le (inl unknown) = inl unknown
 told_moves m old new r b v k le (inr (inl hit)) = inr (inl (hit.0, ((k.sets r le 0).0 hit.1.0, hit.1.1)))
@@ -267,11 +267,11 @@ told_moves m old new r b v k le (inr (inr (inr go))) =
     )))
 
 -- the DFA of a cache that keeps the rows, where each step is blank, or is an old one, or is told
-moved : (m : Nfa) (old new : Dfa) → IsDfaOf m old → IsShape (length m.states) new → Keeps old new
+moved : (m : Nfa) (old new : Dfa) → IsDfaOf m old → IsShape (length m.states) new → KeepsRows old new
     → ((r b : ℕ) → r ≤ new.count → b < 256 → (slice_index new.steps (256 * r + b) ≡ slice_index old.steps (256 * r + b))
     ⊎ Told m new r b (slice_index new.steps (256 * r + b)))
     → ((i : ℕ) → 256 * (new.count + 1) ≤ i → slice_index new.steps i ≡ slice_index old.steps i)
-    → ((r : ℕ) (answer : Bool) → ended new r ≡ Some answer → (ended old r ≡ Some answer)
+    → ((r : ℕ) (answer : Bool) → answer_at_end new r ≡ Some answer → (answer_at_end old r ≡ Some answer)
     ⊎ ((r ≤ new.count) × AnswersEnd m false (In new r) answer))
     → (old.count ≡ 0 → 1 ≤ new.count → Starts m true (In new 1)) → IsDfaOf m new
 moved m old new is shape k cells past ends first =
@@ -319,7 +319,7 @@ pub dfa_added : (m : Nfa) (old new : Dfa) (s : Members) (flag r : Bool) → IsDf
 dfa_added m old new s flag true is grown_so _ first = dfa_grown m old new s flag is (grown_so refl) first
 dfa_added m old new s flag false is _ same first = subst (IsDfaOf m) (sym (same refl)) is
 
-pub sets_keep : (old new : Dfa) → SameSets old new → Keeps old new
+pub sets_keep : (old new : Dfa) → SameSets old new → KeepsRows old new
 sets_keep old new w =
     let c : (r : ℕ) → cut new r ≡ cut old r = λ r. ap (λ u. slice_index u r) w.cuts in
     let p : (j : ℕ) → slice_index new.pool j ≡ slice_index old.pool j = λ j. ap (λ u. slice_index u j) w.pool in
@@ -358,10 +358,10 @@ sets_shape n old new s w steps ends =
       within = λ r q le h. let le' : r ≤ old.count = omega arith in s.within r q le' ((k.sets r le' q).1 h);
     }
 
-pub mark_keeps : (old new : Dfa) (i v : ℕ) → Marked old new i v → Keeps old new
+pub mark_keeps : (old new : Dfa) (i v : ℕ) → Marked old new i v → KeepsRows old new
 mark_keeps old new i v w = sets_keep old new w.sets
 
-pub keeps_on : (old mid new : Dfa) → Keeps old mid → Keeps mid new → Keeps old new
+pub keeps_on : (old mid new : Dfa) → KeepsRows old mid → KeepsRows mid new → KeepsRows old new
 keeps_on old mid new k n =
     let more = k.more in
     record {
@@ -382,7 +382,7 @@ module _ (old new : Dfa) (w : Widened old new) where
         λ h. (h.0, omega (arith, h.1), omega (arith, h.2), sym (w.pool h.0) ∙ h.3),
       )
 
-  pub widened_keeps : Keeps old new
+  pub widened_keeps : KeepsRows old new
   widened_keeps =
       let n = w.count in
       record {
@@ -461,7 +461,7 @@ dfa_marked_end m old new r answer is w le told =
     let n = w.sets.count in
     let few = is.shape.few in
     let size = is.shape.ends_size in
-    let here : ended new r ≡ Some answer =
+    let here : answer_at_end new r ≡ Some answer =
     ap (λ u. get_or u r None) w.ends ∙ get_or-set_same old.ends r (Some answer) None (omega arith) in
     moved m old new is
     (sets_shape (length m.states) old new is.shape w.sets (ap length w.steps)
@@ -470,7 +470,7 @@ dfa_marked_end m old new r answer is w le told =
     (λ i past. ap (λ u. slice_index u i) w.steps)
     (λ r' answer' e. elim (cases_eq r' r) [
       | inl same ↦
-          let both : Some answer' ≡ Some answer = sym e ∙ ap (ended new) same ∙ here in
+          let both : Some answer' ≡ Some answer = sym e ∙ ap (answer_at_end new) same ∙ here in
           let is_so : answer ≡ answer' = sym (same_some answer' answer both) in
           inr (
             omega arith,
@@ -533,10 +533,10 @@ row_next m table state v b is s lt read big =
 pub stands_step : (m : Nfa) (table : Dfa) (l : List ℕ) (from p u state v b : ℕ) → u ≡ p + 1 → IsRunnable m
     → IsDfaOf m table → IsAtRow table state → b < 256
     → slice_get l p ≡ Some b → p < length l → from ≤ p + 1 → v ≡ slice_index table.steps (state + b) → 256 ≤ v
-    → StandsAt m table l from p state → StandsAt m table l from u v
+    → IsRowAt m table l from p state → IsRowAt m table l from u v
 stands_step m table l from p u state v b e is_m is s lt byte more later read big at =
     let n = row_next m table state v b is s lt read big in
-    subst (λ w. StandsAt m table l from w v) (sym e)
+    subst (λ w. IsRowAt m table l from w v) (sym e)
     (stands_next m l from p b (In table (state / 256)) (In table (v / 256)) byte more at n.2 later is_m n.1)
 
 -- in the middle of a walk
@@ -544,7 +544,7 @@ pub record Walking (m : Nfa) (table : Dfa) (l : List ℕ) (from state p v : ℕ)
   pub within : p < length l
   pub onward : from ≤ p
   pub row : IsAtRow table v
-  pub stands : (start : ℕ) → start ≤ from + 1 → StandsAt m table l start from state → StandsAt m table l start p v
+  pub stands : (start : ℕ) → start ≤ from + 1 → IsRowAt m table l start from state → IsRowAt m table l start p v
 
 pub walking_next : (m : Nfa) (table : Dfa) (l : List ℕ) (from state p u at v b : ℕ) → u ≡ p + 1 → IsRunnable m
     → IsDfaOf m table → b < 256
@@ -585,7 +585,8 @@ nones xs n e i = ap (λ v. get_or v i None) e ∙ at n i
 pub blank_table : (table : Dfa) → 256 ≤ length table.steps → length table.ends ≡ 257
     → length table.pool ≤ 1048576
     → length table.cuts ≡ 258 → length table.flags ≡ 257 → table.count ≡ 0 → ((i : ℕ) → slice_index table.steps i ≡ 0)
-    → ((r : ℕ) → ended table r ≡ None) → cut table 0 ≡ cut table 1 → cut table 1 ≤ length table.pool → IsBlank table
+    → ((r : ℕ) → answer_at_end table r ≡ None) → cut table 0 ≡ cut table 1 → cut table 1 ≤ length table.pool
+    → IsBlank table
 blank_table table a b c d f none s l same fits =
     let flat : (r : ℕ) → r ≤ 1 → cut table r ≡ cut table 1 = λ r le. elim (cases_eq r 1) [
       | inl one ↦ ap (cut table) one
@@ -651,7 +652,7 @@ hit_there m b S U s h = ((s 0).1 h.0, h.1)
 -- where the byte leads from row r of the cache: to row k
 pub told_row : (m : Nfa) (old mid : Dfa) (r b k v : ℕ) (s u : Members) → v ≡ 256 * k → 1 ≤ k → k ≤ mid.count
     → r ≤ old.count
-    → Keeps old mid → Same (In old r) (Has s) → (HitBefore m b (Has s) → ⊥) → Goes m b (Has s) (Has u)
+    → KeepsRows old mid → Same (In old r) (Has s) → (HitBefore m b (Has s) → ⊥) → Goes m b (Has s) (Has u)
     → Same (Has u) (In mid k)
     → (flag_at mid k ≡ true → ReadsNone m b (Has s)) → Told m mid r b v
 told_row m old mid r b k v s u e ge le le_r keeps from missed goes to fresh =
@@ -667,7 +668,7 @@ told_row m old mid r b k v s u e ge le le_r keeps from missed goes to fresh =
     )))
 
 pub learned_row : (m : Nfa) (old mid new : Dfa) (r b k v : ℕ) (s u : Members) → v ≡ 256 * k → k ≤ mid.count
-    → Keeps mid new → Same (In old r) (Has s) → (HitBefore m b (Has s) → ⊥) → Goes m b (Has s) (Has u)
+    → KeepsRows mid new → Same (In old r) (Has s) → (HitBefore m b (Has s) → ⊥) → Goes m b (Has s) (Has u)
     → Same (Has u) (In mid k)
     → Learned m old new r b u (Row v)
 learned_row m old mid new r b k v s u e le keeps from missed goes to =
@@ -750,7 +751,8 @@ finishes_end m b S U answer is missed goes at_end = λ l from p s byte end le.
 -- what a row's answer at a line's end says of the row before it
 pub finishes_if : (m : Nfa) (table : Dfa) (b : ℕ) (S : ℕ → Type 0) (k : ℕ) (o : Option Bool) → IsRunnable m
     → IsDfaOf m table
-    → (HitBefore m b S → ⊥) → Goes m b S (In table k) × (flag_at table k ≡ true → ReadsNone m b S) → o ≡ ended table k
+    → (HitBefore m b S → ⊥) → Goes m b S (In table k) × (flag_at table k ≡ true → ReadsNone m b S)
+    → o ≡ answer_at_end table k
     → IfSome o (Finishes m b S)
 finishes_if m table b S k None is dfa_of missed goes e = tt
 finishes_if m table b S k (Some answer) is dfa_of missed goes e =

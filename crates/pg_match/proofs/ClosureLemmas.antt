@@ -10,7 +10,7 @@ use Rattle.pg_match.specs.Automata.{Edge}
 use Rattle.pg_bytes.specs.ByteSets.{bytes}
 use Rattle.pg_bytes.specs.declared.byte_set.ByteSet.{ByteSet}
 use Rattle.pg_match.specs.StateSets.{Members, mark, listed, IsGood, IsEmpty, Inserted, Counted}
-use Rattle.pg_match.specs.Closures.{Leads, ClosedAt, IsClosed, IsOrdered, AllBelow, Path, AreSeeds, Followed}
+use Rattle.pg_match.specs.Closures.{Leads, ClosedAt, IsClosed, IsOrdered, AllBelow, EdgePath, AreSeeds, Followed}
 use Rattle.pg_match.specs.Closures.{Reached, Stepped}
 use Rattle.pg_match.specs.declared.state.State.{State}
 use Rattle.pg_match.specs.declared.state.State.TheVariants.{Fail, Accept, Jump, Read, AtBegin, AtEnd, Split}
@@ -28,7 +28,8 @@ pub record Reaching (t : List State) (l : List ℕ) (i : ℕ) (old new : Members
   pub upto : k ≤ new.len
   pub paths : HasPaths t l i old new x
   pub left : (j : ℕ) → k ≤ j → j < new.len
-      → (mark new (listed new j) ≡ start) × Leads t l x i (listed new j) i × ((n : ℕ) × Path t l i n x (listed new j))
+      → (mark new (listed new j) ≡ start) × Leads t l x i (listed new j) i
+      × ((n : ℕ) × EdgePath t l i n x (listed new j))
   pub done : (q : ℕ) → 0 < mark new q → ClosedAt t l i new q ⊎ ((j : ℕ) × (k ≤ j) × (j < new.len) × (listed new j ≡ q))
   pub counted : Counted old new
 
@@ -258,7 +259,7 @@ module _ (t : List State) (l : List ℕ) (i : ℕ) where
               let e = f.list j old in (
                 ap (mark v) e ∙ f.kept (listed u j) (r.good.is_in j old) ∙ g.0,
                 subst (λ w. Leads t l x i w i) (sym e) g.1,
-                (g.2.0, subst (Path t l i g.2.0 x) (sym e) g.2.1),
+                (g.2.0, subst (EdgePath t l i g.2.0 x) (sym e) g.2.1),
               )
           | inr new ↦ let g = f.recent j new jt
               in (g.0, leads_on x q0 (listed v j) i i mine.1 g.1, (suc mine.2.0, (q0, mine.2.1, g.1)))
@@ -313,19 +314,19 @@ inside_edge (Some (AtEnd x)) l m i j q a b e = absurd (b e.0)
 inside_edge (Some (Split x y)) l m i j q a b e = (e.0, refl)
 
 module _ (t : List State) where
-  inside_path : (l m : List ℕ) (i j n x q : ℕ) → i ≢ 0 → i ≢ length l → Path t l i n x q → Path t m j n x q
+  inside_path : (l m : List ℕ) (i j n x q : ℕ) → i ≢ 0 → i ≢ length l → EdgePath t l i n x q → EdgePath t m j n x q
   inside_path l m i j zero x q a b p = p
   inside_path l m i j (suc n) x q a b p =
       (p.0, inside_path l m i j n x p.0 a b p.1, inside_edge (slice_get t p.0) l m i j q a b p.2)
 
-  path_leads : (l : List ℕ) (i n x q : ℕ) → Path t l i n x q → Leads t l x i q i
+  path_leads : (l : List ℕ) (i n x q : ℕ) → EdgePath t l i n x q → Leads t l x i q i
   path_leads l i zero x q p = subst (λ w. Leads t l x i w i) p (λ k j run. (k, run))
   path_leads l i (suc n) x q p = leads_on t l i x p.0 q i i (path_leads l i n x p.0 p.1) p.2
 
   -- what a walk inside one line finds holds inside each line
   pub seeds_found : (l : List ℕ) (i : ℕ) (s u : Members) (x start : ℕ) → i ≢ 0 → i ≢ length l → IsEmpty s
       → length u.marks ≡ length t
-      → Reached t l i s u x start → ((q : ℕ) → mark s q ≡ 0 → 0 < mark u q → (n : ℕ) × Path t l i n x q)
+      → Reached t l i s u x start → ((q : ℕ) → mark s q ≡ 0 → 0 < mark u q → (n : ℕ) × EdgePath t l i n x q)
       → AreSeeds t x (take u.len u.order)
   seeds_found l i s u x start a b empty size r paths =
       let room : u.len ≤ length u.order = list_long u r.good in

@@ -9,9 +9,9 @@ use Rattle.pg_pattern.specs.Matches.{Chain}
 use Rattle.pg_pattern.specs.Patterns.{IsProper, Pattern, Cat, Alt, Rep}
 use Rattle.pg_match.specs.Sizes.{size_of}
 use Rattle.pg_match.specs.Automata.{target_below, IsTidy}
-use Rattle.pg_match.specs.Tables.{Optional, Implements, Keeps, NoAccept, KeepsWritten, Pushed, Added, AddedCopies}
+use Rattle.pg_match.specs.Tables.{Optional, Implements, KeepsStates, NoAccept, KeepsWritten, Pushed, Added, AddedCopies}
 use Rattle.pg_match.specs.Tables.{AddedOptional}
-use Rattle.pg_match.specs.Gaps.{IsHole, IsGap, IsFilled, Finished, Leads, HasGap, Narrowed}
+use Rattle.pg_match.specs.Gaps.{IsHole, IsGap, IsFilled, Finished, LeadsByHole, HasGap, Narrowed}
 use Rattle.pg_match.specs.declared.build.Gap.{Gap}
 use Rattle.pg_match.specs.declared.build.Hole.{Hole}
 use Rattle.pg_match.specs.declared.state.State.{State}
@@ -23,7 +23,7 @@ use Rattle.pg_match.proofs.TableLemmas.{pushed_is, pushed_tidy, pushed_plain, on
 -- each table that has a part in the gap, from the state e on, has the whole, which goes on at the state x
 abbrev pub Completes : List State → Gap → Pattern → Pattern → ℕ → Type 0
 Completes t g part whole x =
-    (new : List State) (e w : ℕ) → KeepsWritten t new → Implements new part e g.next → Leads new g.hole e w
+    (new : List State) (e w : ℕ) → KeepsWritten t new → Implements new part e g.next → LeadsByHole new g.hole e w
     → Implements new whole w x
 
 written_trans : (a b c : List State) → KeepsWritten a b → KeepsWritten b c → KeepsWritten a c
@@ -36,7 +36,7 @@ hole_any n t (Some h) x = (omega arith, x.1, x.2, x.3)
 pub gap_any : (n : ℕ) (t : List State) (g : Gap) → IsGap n t g → IsGap 0 t g
 gap_any n t g x = record { tidy = x.tidy; next_in = x.next_in; hole_in = hole_any n t g.hole x.hole_in }
 
-pub hole_kept : (n : ℕ) (t u : List State) (h : Option Hole) → Keeps t u → length t ≤ length u → IsHole n t h
+pub hole_kept : (n : ℕ) (t u : List State) (h : Option Hole) → KeepsStates t u → length t ≤ length u → IsHole n t h
     → IsHole n u h
 hole_kept n t u None keeps le hole = tt
 hole_kept n t u (Some h) keeps le hole = (
@@ -71,7 +71,7 @@ module _ (old new : List State) where
       (subst (λ n. All (target_below n) (set old h.place (Split e h.second))) (sym same)
       (All-set (target_below (length old)) old h.place (Split e h.second) below tidy))
 
-  filled_leads : (n : ℕ) (h : Option Hole) (e w : ℕ) → IsHole n old h → IsFilled old new h e w → Leads new h e w
+  filled_leads : (n : ℕ) (h : Option Hole) (e w : ℕ) → IsHole n old h → IsFilled old new h e w → LeadsByHole new h e w
   filled_leads n None e w hole f = f.1
   filled_leads n (Some h) e w hole f =
       (f.1, rw (f.0) (set_is old h.place (Split e h.second) (slice_get_within old h.place Fail hole.1)))
@@ -82,7 +82,7 @@ module _ (old new : List State) where
   filled_inside n (Some h) e w hole e_in f = let len = filled_length (Some h) e w f in omega (arith, len, f.1, hole.3)
 
   filled_keeps : (first : List State) (h : Option Hole) (e w : ℕ) → IsHole (length first) old h → IsFilled old new h e w
-      → Keeps first old → Keeps first new
+      → KeepsStates first old → KeepsStates first new
   filled_keeps first None e w hole f keeps = rw (f.0) keeps
   filled_keeps first (Some h) e w hole f keeps = rw (f.0) (λ q s g.
       let q_in : q < length first = slice_get_within first q s g in
@@ -98,13 +98,14 @@ module _ (old new : List State) where
       let other : q ≢ h.place = omega arith in
       rw (f.0) (set_other old h.place q (Split e h.second) s other is)
 
-leads_kept : (t u : List State) (h : Option Hole) (e w v : ℕ) → KeepsWritten t u → Leads t h e w → v ≡ w → Leads u h e v
+leads_kept : (t u : List State) (h : Option Hole) (e w v : ℕ) → KeepsWritten t u → LeadsByHole t h e w → v ≡ w
+    → LeadsByHole u h e v
 leads_kept t u None e w v keeps l same = same ∙ l
 leads_kept t u (Some h) e w v keeps l same = (same ∙ l.0, keeps h.place (Split e h.second) (λ z. cc) l.1)
 
 -- the table grew
 record Grew (t u : List State) : Type 0 where
-  keeps : Keeps t u
+  keeps : KeepsStates t u
   plain : NoAccept t u
   tidy : IsTidy u
   longer : length t ≤ length u
@@ -214,7 +215,7 @@ module _ (t u v : List State) (g : Gap) (e w : ℕ) (is : IsGap 0 t g) (grew : G
       let hole = hole_kept 0 t u g.hole grew.keeps grew.longer is.hole_in in
       written_trans t u v (written t u grew.keeps) (filled_written u v 0 g.hole e w hole filled)
 
-  opened_leads : (new : List State) (v' : ℕ) → KeepsWritten v new → v' ≡ w → Leads new g.hole e v'
+  opened_leads : (new : List State) (v' : ℕ) → KeepsWritten v new → v' ≡ w → LeadsByHole new g.hole e v'
   opened_leads new v' keeps same =
       let hole = hole_kept 0 t u g.hole grew.keeps grew.longer is.hole_in in
       leads_kept v new g.hole e w v' keeps (filled_leads u v 0 g.hole e w hole filled) same

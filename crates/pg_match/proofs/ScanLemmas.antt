@@ -12,7 +12,7 @@ use Rattle.pg_match.specs.Closures.{AreSeeds}
 use Rattle.pg_match.specs.Searches.{IsBest}
 use Rattle.pg_match.specs.Steps.{Goes, Reads, ReadsNone, HitBefore, EndsBehind}
 use Rattle.pg_match.specs.Stands.{Stands, HasRun, NoneBefore, RunsEndWithin, latest_start}
-use Rattle.pg_match.specs.Dfas.{Dfa, flag_at, In, IsDfaOf, IsAtRow, StandsAt, HasScanned, Settles, Finishes}
+use Rattle.pg_match.specs.Dfas.{Dfa, flag_at, In, IsDfaOf, IsAtRow, IsRowAt, HasScanned, Settles, Finishes}
 use Rattle.pg_match.specs.declared.state.State.{State}
 use Rattle.pg_match.specs.declared.state.State.TheVariants.{Accept}
 use Rattle.pg_match.proofs.SearchLemmas.{edge_moves}
@@ -93,7 +93,7 @@ module _ (m : Nfa) (table : Dfa) (l : List ℕ) (from p at start v b : ℕ) (is_
       × (flag_at table (v / 256) ≡ true → ReadsNone m b (In table (at / 256)))
   told = row_next m table at v b is s.row lt read big
 
-  next : StandsAt m table l from (p + 1) v
+  next : IsRowAt m table l from (p + 1) v
   next = stands_next m l from p b (In table (at / 256)) (In table (v / 256)) byte
       (omega arith) s.stands told.2 s.near is_m told.1
 

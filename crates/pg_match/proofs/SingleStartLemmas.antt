@@ -8,13 +8,13 @@ use Rattle.pg_pattern.proofs.TestLemmas.{end_decided}
 use Rattle.pg_pattern.specs.Bounds.{may_end}
 use Rattle.std.proofs.Math.Nat.{add-mul, mul-le-mul_left}
 use Rattle.pg_pattern.specs.Bounds.{MayBegin, MayEnd}
-use Rattle.pg_match.specs.Anchored.{NothingBefore, StandsFrom, IsLastEnd, Follows, IsAnchoredRun, IsAlone}
+use Rattle.pg_match.specs.Anchored.{NothingBefore, StandsFrom, IsLastEnd, Follows, IsAnchoredRun, IsLone}
 use Rattle.pg_match.specs.Automata.{Nfa, Runs, IsRunnable}
 use Rattle.pg_match.specs.Closures.{Leads}
-use Rattle.pg_match.specs.Dfas.{Dfa, In, Same, Keeps}
+use Rattle.pg_match.specs.Dfas.{Dfa, In, Same, KeepsRows}
 use Rattle.pg_match.specs.Closures.{AllBelow}
 use Rattle.pg_match.specs.Searches.{Alive, IsBest, ending, limit_of, start_bound}
-use Rattle.pg_match.specs.Starts.{GoesOn}
+use Rattle.pg_match.specs.Starts.{ByteLeads}
 use Rattle.pg_match.specs.StateSets.{Members, mark, listed, IsGood}
 use Rattle.pg_match.specs.Steps.{Has}
 use Rattle.pg_match.proofs.AnchoredLemmas.{gone_alone, stands_behind, not_found, end_found}
@@ -61,7 +61,7 @@ module _ (m : Nfa) (l : List ℕ) (from p : ℕ) (now : Members) (b : ℕ × ℕ
     | inr here ↦ let c = best.4 i j ge lt (omega arith) run in omega (arith, c.0)
   ]
 
-  alone : IsAlone m l from p (Has now) (Some b)
+  alone : IsLone m l from p (Has now) (Some b)
   alone = (
     best.0,
     none,
@@ -77,7 +77,7 @@ module _ (m : Nfa) (l : List ℕ) (from p : ℕ) (now : Members) (b : ℕ × ℕ
 pub left_alone : (m : Nfa) (l : List ℕ) (from p : ℕ) (now : Members) (best : Option (ℕ × ℕ))
     → Alive m.states l m.start (MayBegin m.bounds l) from (start_bound p) p now best
     → IsBest m.states l m.start (MayBegin m.bounds l) (MayEnd m.bounds l) from (p + 1) best → p ≤ length l
-    → is_some best ≡ true → ((q : ℕ) → 0 < mark now q → mark now q ≡ limit_of best) → IsAlone m l from p (Has now) best
+    → is_some best ≡ true → ((q : ℕ) → 0 < mark now q → mark now q ≡ limit_of best) → IsLone m l from p (Has now) best
 left_alone m l from p now None a best le some only = absurd (true≢false (sym some))
 left_alone m l from p now (Some b) a best le some only = alone m l from p now b a best le only
 
@@ -100,7 +100,7 @@ anchored_same m l s p last S U same t = record {
 }
 
 -- a DFA of which more rows are known
-pub follows_keeps : (m : Nfa) (old new : Dfa) (l : List ℕ) (s p state : ℕ) (last : Option ℕ) → Keeps old new
+pub follows_keeps : (m : Nfa) (old new : Dfa) (l : List ℕ) (s p state : ℕ) (last : Option ℕ) → KeepsRows old new
     → Follows m old l s p state last → Follows m new l s p state last
 follows_keeps m old new l s p state last k f = record {
   onward = f.onward;
@@ -137,7 +137,7 @@ anchored_loaded m t l s p last state U begins f same = record {
 -- behind a byte
 module _ (m : Nfa) (l : List ℕ) (s p last b : ℕ) (seeds : List ℕ) (S U : ℕ → Type 0) (is_m : IsRunnable m)
     (t : IsAnchoredRun m l s p last S) (is : slice_get l p ≡ Some b) (lt : p < length l)
-    (goes : GoesOn m.states seeds b (IsTrue false) S U) where
+    (goes : ByteLeads m.states seeds b (IsTrue false) S U) where
   pub stands_on : StandsFrom m l s (p + 1) U
   stands_on = stands_behind m l s p b S U is lt t.stands (gone_alone m.states seeds b S U goes)
 
@@ -162,7 +162,7 @@ module _ (m : Nfa) (l : List ℕ) (s p last b : ℕ) (seeds : List ℕ) (S U : �
 -- behind a byte up to which none of the runs has ended where it may
 module _ (m : Nfa) (l : List ℕ) (s p b : ℕ) (seeds : List ℕ) (S U : ℕ → Type 0) (is_m : IsRunnable m)
     (at : StandsFrom m l s p S) (none_yet : IsLastEnd m l s p None) (later : s ≤ p) (is : slice_get l p ≡ Some b)
-    (lt : p < length l) (goes : GoesOn m.states seeds b (IsTrue false) S U) where
+    (lt : p < length l) (goes : ByteLeads m.states seeds b (IsTrue false) S U) where
   behind : StandsFrom m l s (p + 1) U
   behind = stands_behind m l s p b S U is lt at (gone_alone m.states seeds b S U goes)
 

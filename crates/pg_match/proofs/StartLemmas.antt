@@ -16,7 +16,7 @@ use Rattle.pg_match.specs.Closures.{Leads, IsClosed, IsOrdered, AllBelow, AreSee
 use Rattle.pg_match.specs.Dfas.{Same}
 use Rattle.pg_match.specs.Searches.{Seeded}
 use Rattle.pg_match.specs.Stands.{Stands}
-use Rattle.pg_match.specs.Starts.{AreAmong, Targeted, StartsBelow, SeedsStepped, SeedsMoved, WithSeeds, GoesOn}
+use Rattle.pg_match.specs.Starts.{AreAmong, Targeted, StartsBelow, SeedsStepped, SeedsMoved, WithSeeds, ByteLeads}
 use Rattle.pg_match.specs.StateSets.{Members, mark, IsGood, Inserted, Counted}
 use Rattle.pg_match.specs.Steps.{Reads, LeadsStill, Has, Closed, Moved, Goes, AnswersEnd}
 use Rattle.pg_match.specs.declared.state.State.{State}
@@ -321,7 +321,7 @@ module _ (t : List State) (seeds : List ℕ) (b : ℕ) (begins : Bool) (now : Me
       a.goes f.0 r f.1 f.1 (subst (λ v. Reads (slice_get t v) b r) (sym f.2) read)
 
   pub gone_on : (next seeded after : Members) → Moved t b now next now.len → SeedsMoved t seeds b next seeded
-      → Closed t false false seeded after → IsTrue begins → GoesOn t seeds b (IsTrue begins) (Has now) (Has after)
+      → Closed t false false seeded after → IsTrue begins → ByteLeads t seeds b (IsTrue begins) (Has now) (Has after)
   gone_on next seeded after a p c is = record {
     comes = λ r h.
         let w = c.fresh r h in
@@ -341,7 +341,7 @@ module _ (t : List State) (seeds : List ℕ) (b : ℕ) (begins : Bool) (now : Me
   }
 
   pub gone_plainly : (next after : Members) → Moved t b now next now.len → Closed t false false next after
-      → begins ≡ false → GoesOn t seeds b (IsTrue begins) (Has now) (Has after)
+      → begins ≡ false → ByteLeads t seeds b (IsTrue begins) (Has now) (Has after)
   gone_plainly next after a c is_not = record {
     comes = λ r h. let w = c.fresh r h in let g = a.comes w.0 w.1 in (g.0, w.0, inl g.1, g.2, w.2);
     goes = λ q r h read. elim h [
@@ -367,7 +367,7 @@ plain_whole seeds S q = (
 module _ (m : Nfa) (seeds : List ℕ) (are : AreSeeds m.states m.start seeds) where
   -- the whole sets go on as those without the starts do
   pub goes_whole : (l : List ℕ) (p b : ℕ) (B : Type 0) (S U : ℕ → Type 0) → slice_get l p ≡ Some b
-      → GoesOn m.states seeds b B S U
+      → ByteLeads m.states seeds b B S U
       → Goes m b (WithSeeds seeds B S) (WithSeeds seeds (MayBegin m.bounds l (p + 1)) U)
   goes_whole l p b B S U is g = record {
     comes = λ r h. elim h [

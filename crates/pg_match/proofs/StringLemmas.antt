@@ -15,14 +15,14 @@ use Rattle.pg_pattern.specs.declared.bounds.Bounds.TheVariants.{Any, Word, Whole
 use Rattle.pg_pattern.proofs.LengthLemmas.{hits_end}
 use Rattle.pg_match.specs.Automata.{IsTidy}
 use Rattle.pg_match.specs.Sizes.{size_of}
-use Rattle.pg_match.specs.Strings.{string_pattern, string_patterns, with_bytes}
-use Rattle.pg_match.specs.Tables.{Added, Implements, Keeps, NoAccept, Pushed}
+use Rattle.pg_match.specs.Strings.{string_pattern, string_patterns, with_string}
+use Rattle.pg_match.specs.Tables.{Added, Implements, KeepsStates, NoAccept, Pushed}
 use Rattle.pg_match.specs.declared.state.State.{State}
 use Rattle.pg_match.specs.declared.state.State.TheVariants.{Jump, Read}
 use Rattle.pg_match.proofs.TableLemmas.{pushed_length, pushed_keeps, pushed_is, pushed_tidy, pushed_plain}
 
 -- a pattern grows by a state for each byte behind it
-size_behind : (fold : Bool) (p : Pattern) (text : List ℕ) → size_of (with_bytes fold p text) ≡ size_of p + length text
+size_behind : (fold : Bool) (p : Pattern) (text : List ℕ) → size_of (with_string fold p text) ≡ size_of p + length text
 size_behind fold p [] = omega arith
 size_behind fold p (b ∷ text) =
     let rest = size_behind fold (Cat p (Set (folded fold (one b)))) text in
@@ -39,7 +39,7 @@ size_nothing fold [] none = refl
 size_nothing fold (b ∷ text) none = absurd (omega (arith, none))
 
 -- no repetition stands in a string
-proper_behind : (fold : Bool) (p : Pattern) (text : List ℕ) → IsProper p → IsProper (with_bytes fold p text)
+proper_behind : (fold : Bool) (p : Pattern) (text : List ℕ) → IsProper p → IsProper (with_string fold p text)
 proper_behind fold p [] proper = proper
 proper_behind fold p (b ∷ text) proper = proper_behind fold (Cat p (Set (folded fold (one b)))) text (proper, tt)
 
@@ -54,7 +54,7 @@ strings_proper fold strings =
 
 -- a match has as many bytes as the string
 long_behind : (fold : Bool) (p : Pattern) (most : ℕ) (text : List ℕ) → HasAtMost p most
-    → HasAtMost (with_bytes fold p text) (most + length text)
+    → HasAtMost (with_string fold p text) (most + length text)
 long_behind fold p most [] long = λ line i j m. let own = long line i j m in omega (arith, own)
 long_behind fold p most (b ∷ text) long =
     let more : HasAtMost (Cat p (Set (folded fold (one b)))) (most + 1) =
@@ -92,7 +92,8 @@ Reads fold t (b ∷ text) e x =
     (s : ByteSet) × (k : ℕ) × (bytes s ≡ folded fold (one b)) × (slice_get t e ≡ Some (Read s k))
     × Reads fold t text k x
 
-reads_kept : (fold : Bool) (old new : List State) → Keeps old new → (text : List ℕ) (e x : ℕ) → Reads fold old text e x
+reads_kept : (fold : Bool) (old new : List State) → KeepsStates old new → (text : List ℕ) (e x : ℕ)
+    → Reads fold old text e x
     → Reads fold new text e x
 reads_kept fold old new keeps [] e x same = same
 reads_kept fold old new keeps (b ∷ text) e x (s, k, is, at, rest) =
@@ -100,7 +101,7 @@ reads_kept fold old new keeps (b ∷ text) e x (s, k, is, at, rest) =
 
 -- the states of a pattern, and of bytes behind it
 implements_behind : (fold : Bool) (t : List State) (p : Pattern) (text : List ℕ) (e k x : ℕ) → Implements t p e k
-    → Reads fold t text k x → Implements t (with_bytes fold p text) e x
+    → Reads fold t text k x → Implements t (with_string fold p text) e x
 implements_behind fold t p [] e k x first same = subst (Implements t p e) same first
 implements_behind fold t p (b ∷ text) e k x first (s, n, is, at, rest) =
     implements_behind fold t (Cat p (Set (folded fold (one b)))) text e n x (k, first, (s, is, at)) rest
@@ -108,7 +109,7 @@ implements_behind fold t p (b ∷ text) e k x first (s, n, is, at, rest) =
 -- the table grew by the states of these bytes, which begin at e and go on at x
 pub record AddedBytes (fold : Bool) (old new : List State) (text : List ℕ) (e x : ℕ) : Type 0 where
   pub reads : Reads fold new text e x
-  pub keeps : Keeps old new
+  pub keeps : KeepsStates old new
   pub plain : NoAccept old new
   pub tidy : IsTidy new
   pub inside : e < length new

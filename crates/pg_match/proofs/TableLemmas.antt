@@ -12,7 +12,8 @@ use Rattle.pg_pattern.specs.Matches.{Chain}
 use Rattle.pg_pattern.specs.Patterns.{IsProper, Pattern, Empty, Set, Begin, End, Cat, Alt, Rep}
 use Rattle.pg_match.specs.Sizes.{size_of}
 use Rattle.pg_match.specs.Automata.{target_below, IsTidy}
-use Rattle.pg_match.specs.Tables.{Optional, Loop, AfterCopies, Implements, Keeps, NoAccept, KeepsWritten, Pushed, Added}
+use Rattle.pg_match.specs.Tables.{Optional, Loop, AfterCopies, Implements, KeepsStates, NoAccept, KeepsWritten, Pushed}
+use Rattle.pg_match.specs.Tables.{Added}
 use Rattle.pg_match.specs.Tables.{AddedCopies, AddedOptional}
 use Rattle.pg_match.specs.declared.state.State.{State}
 use Rattle.pg_match.specs.declared.state.State.TheVariants.{Fail, Accept, Jump, Read, AtBegin, AtEnd, Split}
@@ -20,10 +21,10 @@ use Rattle.pg_match.specs.declared.state.State.TheVariants.{Fail, Accept, Jump, 
 pub plain_trans : (a b c : List State) → NoAccept a b → NoAccept b c → NoAccept a c
 plain_trans a b c f g q h = f q (g q h)
 
-pub keeps_trans : (a b c : List State) → Keeps a b → Keeps b c → Keeps a c
+pub keeps_trans : (a b c : List State) → KeepsStates a b → KeepsStates b c → KeepsStates a c
 keeps_trans a b c f g q s h = g q s (f q s h)
 
-pub written : (a b : List State) → Keeps a b → KeepsWritten a b
+pub written : (a b : List State) → KeepsStates a b → KeepsWritten a b
 written a b f q s other h = f q s h
 
 pub chain_kept : (R Q : ℕ → ℕ → Type 0) → ((e x : ℕ) → R e x → Q e x) → (c e x : ℕ) → Chain R c e x → Chain Q c e x
@@ -72,7 +73,7 @@ below_more m n le (Split x y) h = (omega (arith, h.0), omega (arith, h.1))
 pub pushed_length : (old new : List State) (s : State) (e : ℕ) → Pushed old new s e → length new ≡ length old + 1
 pushed_length old new s e p = ap length p.items ∙ length-append old (s ∷ [])
 
-pub pushed_keeps : (old new : List State) (s : State) (e : ℕ) → Pushed old new s e → Keeps old new
+pub pushed_keeps : (old new : List State) (s : State) (e : ℕ) → Pushed old new s e → KeepsStates old new
 pushed_keeps old new s e p q w h =
     let within : q < length old = slice_get_within old q w h in
     let in' : q < length (old ++ s ∷ []) = omega (arith, length-append old (s ∷ [])) in

@@ -4,7 +4,7 @@ use Rattle.std.specs.Prelude.{List, length, slice_get, slice_index, Option, Some
 use Rattle.pg_match.specs.Automata.{Nfa, Edge, Runs}
 use Rattle.pg_match.specs.Closures.{Leads}
 use Rattle.pg_pattern.specs.Bounds.{MayBegin, MayEnd}
-use Rattle.pg_match.specs.Dfas.{Dfa, In, IsShape, IsUnknown, IsAtRow, flag_at, ended}
+use Rattle.pg_match.specs.Dfas.{Dfa, In, IsShape, IsUnknown, IsAtRow, flag_at, answer_at_end}
 use Rattle.pg_match.specs.Steps.{Reads, LeadsStill, IsStill, Starts, ReadsNone, AnswersEnd}
 use Rattle.pg_match.specs.Searches.{IsBestFrom, RunsFrom}
 use Rattle.pg_match.specs.declared.dfa_anchored.KnownSpan.{KnownSpan}
@@ -37,7 +37,7 @@ pub record IsAnchoredDfaOf (m : Nfa) (t : Dfa) : Type 0 where
   pub told : (r b : ℕ) → r ≤ t.count → b < 256 → ToldAlone m t r b (slice_index t.steps (256 * r + b))
   pub blank : (i : ℕ) → 256 * (t.count + 1) ≤ i → slice_index t.steps i ≡ 0
   pub accepts : (r : ℕ) → 1 ≤ r → r ≤ t.count → (flag_at t r ≡ true) ↔ In t r 0
-  pub told_end : (r : ℕ) (answer : Bool) → ended t r ≡ Some answer
+  pub told_end : (r : ℕ) (answer : Bool) → answer_at_end t r ≡ Some answer
       → (r ≤ t.count) × AnswersEnd m false (In t r) answer
   pub inside : 1 ≤ t.count → Starts m false (In t 1)
   pub first : 2 ≤ t.count → Starts m true (In t 2)
@@ -102,9 +102,9 @@ pub record IsAnchoredRun (m : Nfa) (l : List ℕ) (s p last : ℕ) (S : ℕ → 
   pub found : IsLastEnd m l s p (Some last)
 
 -- S is the set of p in a search from a place on whose best span so far is this one, and no better one begins elsewhere
-abbrev pub IsAlone : Nfa → List ℕ → ℕ → ℕ → (ℕ → Type 0) → Option (ℕ × ℕ) → Type 0
-IsAlone m l from p S None = ⊥
-IsAlone m l from p S (Some b) = (from ≤ b.0) × NothingBefore m l from b.0 × IsAnchoredRun m l b.0 p b.1 S
+abbrev pub IsLone : Nfa → List ℕ → ℕ → ℕ → (ℕ → Type 0) → Option (ℕ × ℕ) → Type 0
+IsLone m l from p S None = ⊥
+IsLone m l from p S (Some b) = (from ≤ b.0) × NothingBefore m l from b.0 × IsAnchoredRun m l b.0 p b.1 S
 
 -- where a search begins at the first place of a line of more than one byte, the row is the set behind the first byte of
 -- the runs that begin there

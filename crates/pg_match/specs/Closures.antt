@@ -9,9 +9,9 @@ abbrev pub Leads : List State → List ℕ → ℕ → ℕ → ℕ → ℕ → T
 Leads t l x i q k = (n j : ℕ) → Runs t l n q k j → (m : ℕ) × Runs t l m x i j
 
 -- so many edges lead from x to q without leaving the place i
-abbrev pub Path : List State → List ℕ → ℕ → ℕ → ℕ → ℕ → Type 0
-Path t l i zero x q = x ≡ q
-Path t l i (suc n) x q = (r : ℕ) × Path t l i n x r × Edge (slice_get t r) l i q i
+abbrev pub EdgePath : List State → List ℕ → ℕ → ℕ → ℕ → ℕ → Type 0
+EdgePath t l i zero x q = x ≡ q
+EdgePath t l i (suc n) x q = (r : ℕ) × EdgePath t l i n x r × Edge (slice_get t r) l i q i
 
 -- each state that q leads to at i is in the set, with no later start
 abbrev pub ClosedAt : List State → List ℕ → ℕ → Members → ℕ → Type 0
@@ -57,7 +57,7 @@ pub record Reached (t : List State) (l : List ℕ) (i : ℕ) (old new : Members)
 
 -- each state that is new is at the end of a path from x
 abbrev pub HasPaths : List State → List ℕ → ℕ → Members → Members → ℕ → Type 0
-HasPaths t l i old new x = (q : ℕ) → mark old q ≡ 0 → 0 < mark new q → (n : ℕ) × Path t l i n x q
+HasPaths t l i old new x = (q : ℕ) → mark old q ≡ 0 → 0 < mark new q → (n : ℕ) × EdgePath t l i n x q
 
 -- the states that the byte at i leads to from those whose mark is at most `limit`
 pub record Stepped (t : List State) (l : List ℕ) (i : ℕ) (now next : Members) (limit : ℕ) : Type 0 where

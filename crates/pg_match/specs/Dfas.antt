@@ -29,8 +29,8 @@ abbrev pub cut : Dfa → ℕ → ℕ
 cut t r = slice_index t.cuts r
 
 -- the answer of row r at a line's end, if it is known
-abbrev pub ended : Dfa → ℕ → Option Bool
-ended t r = slice_index_or t.ends r None
+abbrev pub answer_at_end : Dfa → ℕ → Option Bool
+answer_at_end t r = slice_index_or t.ends r None
 
 -- The flag of row r. In the DFA of all runs it says that the row is fresh: only for places where no run is left that
 -- began before them. In that of the runs of one start it says that a match may end at a place whose set the row is.
@@ -81,7 +81,7 @@ pub record IsDfaOf (m : Nfa) (t : Dfa) : Type 0 where
   pub shape : IsShape (length m.states) t
   pub told : (r b : ℕ) → r ≤ t.count → b < 256 → Told m t r b (slice_index t.steps (256 * r + b))
   pub blank : (i : ℕ) → 256 * (t.count + 1) ≤ i → slice_index t.steps i ≡ 0
-  pub told_end : (r : ℕ) (answer : Bool) → ended t r ≡ Some answer
+  pub told_end : (r : ℕ) (answer : Bool) → answer_at_end t r ≡ Some answer
       → (r ≤ t.count) × AnswersEnd m false (In t r) answer
   pub first : 1 ≤ t.count → Starts m true (In t 1)
 
@@ -89,17 +89,17 @@ pub record IsDfaOf (m : Nfa) (t : Dfa) : Type 0 where
 pub record IsBlank (t : Dfa) : Type 0 where
   pub shape : (n : ℕ) → IsShape n t
   pub steps : (i : ℕ) → slice_index t.steps i ≡ 0
-  pub ends : (r : ℕ) → ended t r ≡ None
+  pub ends : (r : ℕ) → answer_at_end t r ≡ None
   pub count : t.count ≡ 0
 
 -- the rows of the old DFA stand in the new one, with their flags
-pub record Keeps (old new : Dfa) : Type 0 where
+pub record KeepsRows (old new : Dfa) : Type 0 where
   pub sets : (r : ℕ) → r ≤ old.count → Same (In old r) (In new r)
   pub flags : (r : ℕ) → r ≤ old.count → flag_at new r ≡ flag_at old r
   pub more : old.count ≤ new.count
 
 -- memory for another row, of so many states
-pub record HasRoom (t : Dfa) (states : ℕ) : Type 0 where
+pub record HasRowRoom (t : Dfa) (states : ℕ) : Type 0 where
   pub few : t.count < 256
   pub steps : 256 * (t.count + 2) ≤ length t.steps
   pub pool : cut t (t.count + 1) + states ≤ length t.pool
@@ -119,7 +119,7 @@ pub record Widened (old new : Dfa) : Type 0 where
 -- the set was added as a row
 pub record Grown (n : ℕ) (old new : Dfa) (s : Members) (flag : Bool) : Type 0 where
   pub shape : IsShape n new
-  pub keeps : Keeps old new
+  pub keeps : KeepsRows old new
   pub steps : (i : ℕ) → slice_index new.steps i ≡ slice_index old.steps i
   pub ends : new.ends ≡ old.ends
   pub count : new.count ≡ old.count + 1
@@ -151,8 +151,8 @@ pub record IsAtRow (t : Dfa) (state : ℕ) : Type 0 where
   pub known : state / 256 ≤ t.count
 
 -- the row of a walk's state is the set of the place
-abbrev pub StandsAt : Nfa → Dfa → List ℕ → ℕ → ℕ → ℕ → Type 0
-StandsAt m t l from p state = Stands m l from p (In t (state / 256))
+abbrev pub IsRowAt : Nfa → Dfa → List ℕ → ℕ → ℕ → ℕ → Type 0
+IsRowAt m t l from p state = Stands m l from p (In t (state / 256))
 
 -- what was learned of a row and a byte
 abbrev pub Learned : Nfa → Dfa → Dfa → ℕ → ℕ → Members → Next → Type 0
@@ -180,7 +180,7 @@ pub record HasScanned (m : Nfa) (t : Dfa) (l : List ℕ) (from p state start : �
   pub within : p < length l
   pub near : from ≤ p + 1
   pub row : IsAtRow t state
-  pub stands : StandsAt m t l from p state
+  pub stands : IsRowAt m t l from p state
   pub later : from ≤ start
   pub upto : start ≤ length l
   pub none : NoneBefore m l from start
@@ -197,7 +197,7 @@ pub record IsCursor (m : Nfa) (t : Dfa) (l : List ℕ) (c : Cursor) : Type 0 whe
   pub within : c.place < length l
   pub near : c.from ≤ c.place + 1
   pub row : IsAtRow t c.state
-  pub stands : StandsAt m t l c.from c.place c.state
+  pub stands : IsRowAt m t l c.from c.place c.state
 
 -- What is found at a step that stopped a walk: whether there is a hit from the cursor's `from` on, or a cursor further
 -- on, where there is one if and only if there is one from its own `from` on.

@@ -3,7 +3,7 @@ use Rattle.std.specs.Prelude.{◌≡◌, ℕ, ◌+◌, ◌<◌, ◌≤◌, List,
 use Rattle.pg_pattern.specs.Patterns.{Pattern}
 use Rattle.pg_match.specs.Sizes.{size_of}
 use Rattle.pg_match.specs.Automata.{IsTidy}
-use Rattle.pg_match.specs.Tables.{Implements, Keeps, NoAccept, KeepsWritten, Pushed}
+use Rattle.pg_match.specs.Tables.{Implements, KeepsStates, NoAccept, KeepsWritten, Pushed}
 use Rattle.pg_match.specs.declared.build.Gap.{Gap}
 use Rattle.pg_match.specs.declared.build.Hole.{Hole}
 use Rattle.pg_match.specs.declared.state.State.{State}
@@ -30,13 +30,13 @@ abbrev pub Finished : List State → List State → Option Hole → State → �
 Finished old new h s w = (t : List State) × (e : ℕ) × Pushed old t s e × IsFilled t new h e w
 
 -- the whole begins at w, and leads to e by the hole, if there is one
-abbrev pub Leads : List State → Option Hole → ℕ → ℕ → Type 0
-Leads t None e w = w ≡ e
-Leads t (Some h) e w = (w ≡ h.entry) × (slice_get t h.place ≡ Some (Split e h.second))
+abbrev pub LeadsByHole : List State → Option Hole → ℕ → ℕ → Type 0
+LeadsByHole t None e w = w ≡ e
+LeadsByHole t (Some h) e w = (w ≡ h.entry) × (slice_get t h.place ≡ Some (Split e h.second))
 
 -- the table grew from the old one, and has the gap
 pub record HasGap (old new : List State) (g : Gap) : Type 0 where
-  pub keeps : Keeps old new
+  pub keeps : KeepsStates old new
   pub plain : NoAccept old new
   pub longer : length old ≤ length new
   pub gap_in : IsGap (length old) new g
@@ -45,6 +45,7 @@ pub record HasGap (old new : List State) (g : Gap) : Type 0 where
 pub record Narrowed (old new : List State) (g h : Gap) (whole part : Pattern) : Type 0 where
   pub has : (first : List State) → HasGap first old g → HasGap first new h
   pub written : KeepsWritten old new
-  pub completes : (t : List State) (e w : ℕ) → KeepsWritten new t → Implements t part e h.next → Leads t h.hole e w
-      → (k : ℕ) × Implements t whole k g.next × Leads t g.hole k w
+  pub completes : (t : List State) (e w : ℕ) → KeepsWritten new t → Implements t part e h.next
+      → LeadsByHole t h.hole e w
+      → (k : ℕ) × Implements t whole k g.next × LeadsByHole t g.hole k w
   pub size : length new + size_of part ≡ length old + size_of whole

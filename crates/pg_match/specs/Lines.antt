@@ -1,7 +1,7 @@
 -- What is known of the line that some bytes begin with before its end is.
 use Rattle.std.specs.Prelude.{◌≡◌, ℕ, ◌<◌, ◌≤◌, ◌↔◌, IsTrue, List, length, take, slice_index}
 use Rattle.pg_match.specs.Automata.{Nfa}
-use Rattle.pg_match.specs.Dfas.{Dfa, IsAtRow, StandsAt}
+use Rattle.pg_match.specs.Dfas.{Dfa, IsAtRow, IsRowAt}
 use Rattle.pg_match.specs.declared.dfa_line.KnownLine.{KnownLine}
 
 -- from a place inside a line on, its text goes up to another: there stands the byte that ends lines, and not before, or
@@ -27,4 +27,4 @@ pub record StandsInLine (m : Nfa) (t : Dfa) (end : ℕ) (bytes : List ℕ) (stat
   pub within : p < length bytes
   pub clear : (i : ℕ) → i ≤ p → slice_index bytes i ≡ end → ⊥
   pub row : IsAtRow t state
-  pub stands : (n : ℕ) → p < n → n ≤ length bytes → StandsAt m t (take n bytes) 0 p state
+  pub stands : (n : ℕ) → p < n → n ≤ length bytes → IsRowAt m t (take n bytes) 0 p state

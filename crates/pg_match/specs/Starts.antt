@@ -75,7 +75,7 @@ WithSeeds seeds B S q = S q ⊎ (B × ((k : ℕ) × (k < length seeds) × (slice
 
 -- From S, and from the seeds if a match may begin before the byte, the byte leads to U, but for starts behind it and
 -- for what needs the line's end.
-pub record GoesOn (t : List State) (seeds : List ℕ) (b : ℕ) (B : Type 0) (S U : ℕ → Type 0) : Type 0 where
+pub record ByteLeads (t : List State) (seeds : List ℕ) (b : ℕ) (B : Type 0) (S U : ℕ → Type 0) : Type 0 where
   pub comes : (r : ℕ) → U r
       → (q : ℕ) × (y : ℕ) × WithSeeds seeds B S q × Reads (slice_get t q) b y × LeadsStill t false false y r
   pub goes : (q r : ℕ) → WithSeeds seeds B S q → Reads (slice_get t q) b r → U r

@@ -5,14 +5,14 @@ use Rattle.pg_bytes.specs.Sets.{one}
 use Rattle.pg_pattern.specs.Patterns.{Pattern, Empty, Set, Cat, folded}
 
 -- a pattern, and bytes behind it, with both cases of letters where case is folded
-abbrev pub with_bytes : Bool → Pattern → List ℕ → Pattern
-with_bytes fold p [] = p
-with_bytes fold p (b ∷ text) = with_bytes fold (Cat p (Set (folded fold (one b)))) text
+abbrev pub with_string : Bool → Pattern → List ℕ → Pattern
+with_string fold p [] = p
+with_string fold p (b ∷ text) = with_string fold (Cat p (Set (folded fold (one b)))) text
 
 -- the pattern of a string: its bytes, one behind the other; of the empty string the empty pattern
 abbrev pub string_pattern : Bool → List ℕ → Pattern
 string_pattern fold [] = Empty
-string_pattern fold (b ∷ text) = with_bytes fold (Set (folded fold (one b))) text
+string_pattern fold (b ∷ text) = with_string fold (Set (folded fold (one b))) text
 
 -- the patterns of strings, in their order
 abbrev pub string_patterns : Bool → List (Bor (List ℕ)) → List Pattern

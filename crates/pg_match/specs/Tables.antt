@@ -37,8 +37,8 @@ Implements t (Rep p least most) e x =
     (k : ℕ) × Chain (Implements t p) least e k × AfterCopies t (Implements t p) least most k x
 
 -- each state of the old table is in the new one
-abbrev pub Keeps : List State → List State → Type 0
-Keeps old new = (q : ℕ) (s : State) → slice_get old q ≡ Some s → slice_get new q ≡ Some s
+abbrev pub KeepsStates : List State → List State → Type 0
+KeepsStates old new = (q : ℕ) (s : State) → slice_get old q ≡ Some s → slice_get new q ≡ Some s
 
 -- each `Accept` of the new table is one of the old one
 abbrev pub NoAccept : List State → List State → Type 0
@@ -56,7 +56,7 @@ pub record Pushed (old new : List State) (s : State) (e : ℕ) : Type 0 where
 -- the table grew by the states of the pattern, which begin at e and go on at x
 pub record Added (old new : List State) (p : Pattern) (e x : ℕ) : Type 0 where
   pub implements : Implements new p e x
-  pub keeps : Keeps old new
+  pub keeps : KeepsStates old new
   pub plain : NoAccept old new
   pub tidy : IsTidy new
   pub inside : e < length new
@@ -65,7 +65,7 @@ pub record Added (old new : List State) (p : Pattern) (e x : ℕ) : Type 0 where
 -- the table grew by the states of copies of the pattern, one behind the other, which begin at e and go on at x
 pub record AddedCopies (old new : List State) (p : Pattern) (count e x : ℕ) : Type 0 where
   pub implements : Chain (Implements new p) count e x
-  pub keeps : Keeps old new
+  pub keeps : KeepsStates old new
   pub plain : NoAccept old new
   pub tidy : IsTidy new
   pub inside : e < length new
@@ -74,7 +74,7 @@ pub record AddedCopies (old new : List State) (p : Pattern) (count e x : ℕ) : 
 -- the table grew by the states of copies of the pattern that may be left out, which begin at e and go on at x
 pub record AddedOptional (old new : List State) (p : Pattern) (count e x : ℕ) : Type 0 where
   pub implements : Optional new (Implements new p) count e x
-  pub keeps : Keeps old new
+  pub keeps : KeepsStates old new
   pub plain : NoAccept old new
   pub tidy : IsTidy new
   pub inside : e < length new

@@ -2,7 +2,7 @@
 ghost use Rattle.std.specs.Prelude.{◌≡◌, ◌+◌, ◌*◌, ◌<◌, ◌≤◌, ◌^◌, length, IfSome, IsTrue};
 ghost use Rattle.pg_match.specs.Anchored.{IsAnchoredDfaOf, start_row, NothingBefore, TellsKnownSpan, known_span_of};
 ghost use Rattle.pg_match.specs.Anchored.{Follows, IsLongestFrom};
-ghost use Rattle.pg_match.specs.Dfas.{In, IsAtRow, Keeps, Same};
+ghost use Rattle.pg_match.specs.Dfas.{In, IsAtRow, KeepsRows, Same};
 ghost use Rattle.pg_match.specs.Searches.{IsBestFrom};
 ghost use Rattle.pg_match.specs.StateSets.{IsGood, HaveRoom};
 ghost use Rattle.pg_match.specs.Steps.{Has};
@@ -165,7 +165,7 @@ impl<A: Allocator> Automaton<A> {
         requires size { length set.now.marks.items ≡ length self.now.states.items }
         requires some { 2 ≤ cache.old.count }
         ensures cache { IsAnchoredDfaOf (nfa self.now) (dfa cache.new) }
-        ensures keeps { Keeps (dfa cache.old) (dfa cache.new) }
+        ensures keeps { KeepsRows (dfa cache.old) (dfa cache.new) }
         ensures known { IfSome result (λ row. (1 ≤ row) × (row ≤ cache.new.count)) }
         ensures same { IfSome result (λ row. Same (Has (members set.now)) (In (dfa cache.new) row)) }
     {
@@ -196,7 +196,7 @@ impl<A: Allocator> Automaton<A> {
         requires visits { sets.old.visits < 2 ^ 99 }
         ensures room { HaveRoom (buffers sets.new) (length self.now.states.items) }
         ensures cache { IsAnchoredDfaOf (nfa self.now) (dfa cache.new) }
-        ensures keeps { Keeps (dfa cache.old) (dfa cache.new) }
+        ensures keeps { KeepsRows (dfa cache.old) (dfa cache.new) }
         ensures some { 2 ≤ cache.new.count }
         ensures known { IfSome result (λ next. next ≤ cache.new.count) }
         ensures visits { sets.new.visits ≤ sets.old.visits + length self.now.states.items }

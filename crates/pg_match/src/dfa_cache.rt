@@ -5,7 +5,7 @@ ghost use Rattle.pg_match.specs.Closures.{AllBelow};
 ghost use Rattle.pg_match.specs.StateSets.{IsGood};
 ghost use Rattle.pg_match.specs.Steps.{Has};
 ghost use Rattle.pg_match.specs.Dfas.{IsShape, IsDfaOf, In, flag_at, Same, Grown, Marked, MarkedEnd, IsBlank};
-ghost use Rattle.pg_match.specs.Dfas.{HasRoom, Widened};
+ghost use Rattle.pg_match.specs.Dfas.{HasRowRoom, Widened};
 ghost use Rattle.pg_match.specs.Views.{members, dfa, SameLimits};
 
 use crate::sparse_set::StateSet;
@@ -221,7 +221,7 @@ impl<A: Allocator> Cache<A> {
     fn make_room(&mut self, set: &StateSet<A>) -> bool
         requires shape { IsShape (length set.now.marks.items) (dfa self.old) }
         ensures widened { IsTrue result → Widened (dfa self.old) (dfa self.new) }
-        ensures room { IsTrue result → HasRoom (dfa self.new) set.now.len }
+        ensures room { IsTrue result → HasRowRoom (dfa self.new) set.now.len }
         ensures full { result ≡ false → dfa self.new ≡ dfa self.old }
         ensures limits { SameLimits self.old self.new }
     {
@@ -244,7 +244,7 @@ impl<A: Allocator> Cache<A> {
     fn write(&mut self, set: &StateSet<A>, flag: bool)
         requires shape { IsShape (length set.now.marks.items) (dfa self.old) }
         requires good { IsGood (members set.now) }
-        requires room { HasRoom (dfa self.old) set.now.len }
+        requires room { HasRowRoom (dfa self.old) set.now.len }
         ensures grown { Grown (length set.now.marks.items) (dfa self.old) (dfa self.new)
             (members set.now) flag }
         ensures limits { SameLimits self.old self.new }

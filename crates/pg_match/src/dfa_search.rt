@@ -8,7 +8,7 @@ ghost use Rattle.pg_pattern.specs.declared.bounds.Bounds.TheVariants.{Whole};
 ghost use Rattle.pg_match.specs.StateSets.{IsGood, HaveRoom};
 ghost use Rattle.pg_match.specs.Stands.{HasRun};
 ghost use Rattle.pg_match.specs.Steps.{Has, Starts, IsQuiet, IsSpent};
-ghost use Rattle.pg_match.specs.Dfas.{IsDfaOf, In, flag_at, Same, Keeps, IsAtRow, StandsAt};
+ghost use Rattle.pg_match.specs.Dfas.{IsDfaOf, In, flag_at, Same, KeepsRows, IsAtRow, IsRowAt};
 ghost use Rattle.pg_match.specs.Dfas.{Learned, Finishes, Settles};
 ghost use Rattle.pg_match.specs.Views.{nfa, members, buffers, dfa, added, CachesDfaOf, Tells, IsBuilt};
 
@@ -90,7 +90,7 @@ impl<A: Allocator> Automaton<A> {
         requires size { length set.now.marks.items ≡ length self.now.states.items }
         requires some { 1 ≤ cache.old.count }
         ensures cache { IsDfaOf (nfa self.now) (dfa cache.new) }
-        ensures keeps { Keeps (dfa cache.old) (dfa cache.new) }
+        ensures keeps { KeepsRows (dfa cache.old) (dfa cache.new) }
         ensures known { IfSome result (λ row. (1 ≤ row) × (row ≤ cache.new.count)) }
         ensures same { IfSome result (λ row. Same (Has (members set.now)) (In (dfa cache.new) row)) }
         ensures fresh { IfSome result (λ row. flag_at (dfa cache.new) row ≡ is_fresh) }
@@ -168,8 +168,8 @@ impl<A: Allocator> Automaton<A> {
         ensures onward { from ≤ result.1 }
         ensures row { IsAtRow (dfa cache.now) result.0 }
         ensures stands { (start : ℕ) → start ≤ from + 1
-            → StandsAt (nfa self.now) (dfa cache.now) line.now start from state
-            → StandsAt (nfa self.now) (dfa cache.now) line.now start result.1 result.0 }
+            → IsRowAt (nfa self.now) (dfa cache.now) line.now start from state
+            → IsRowAt (nfa self.now) (dfa cache.now) line.now start result.1 result.0 }
     {
         let mut at = state;
         let mut place = from;

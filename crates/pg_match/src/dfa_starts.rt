@@ -1,5 +1,6 @@
 //! What the DFA cache tells of the hits of a line from a place on, before any marks are set.
-ghost use Rattle.std.specs.Prelude.{◌≡◌, ℕ, ◌+◌, ◌*◌, ◌/◌, ◌<◌, ◌≤◌, ◌^◌, ◌↔◌, length, IfSome, IsTrue, List, MatchOption};
+ghost use Rattle.std.specs.Prelude.{◌≡◌, ℕ, ◌+◌, ◌*◌, ◌/◌, ◌<◌, ◌≤◌, ◌^◌, ◌↔◌, length, IfSome, IsTrue, List};
+ghost use Rattle.std.specs.Prelude.{MatchOption};
 ghost use Rattle.pg_pattern.specs.Patterns.{Pattern};
 ghost use Rattle.pg_pattern.specs.Hits.{HasNoNext, IsNext};
 ghost use Rattle.pg_match.specs.Machines.{Agrees};
@@ -9,7 +10,7 @@ ghost use Rattle.pg_match.specs.Searches.{IsBestFrom};
 ghost use Rattle.pg_match.specs.Closures.{AreSeeds};
 ghost use Rattle.pg_match.specs.Steps.{EndsBehind};
 ghost use Rattle.pg_match.specs.Stands.{HasRun, latest_start};
-ghost use Rattle.pg_match.specs.Dfas.{IsDfaOf, IsAtRow, StandsAt, HasScanned, Scanned};
+ghost use Rattle.pg_match.specs.Dfas.{IsDfaOf, IsAtRow, IsRowAt, HasScanned, Scanned};
 ghost use Rattle.pg_match.specs.Views.{nfa, buffers, dfa, added, CachesDfaOf, IsBuilt};
 ghost use Rattle.pg_match.specs.Views.{CachesAnchoredDfaOf, Tells};
 
@@ -114,7 +115,7 @@ impl<A: Allocator> Automaton<A> {
         requires row { IsAtRow (dfa cache.now) state }
         requires within { place < length line.now }
         ensures { IfSome result (λ answer. (from : ℕ) → from ≤ place + 1
-            → StandsAt (nfa self.now) (dfa cache.now) line.now from place state
+            → IsRowAt (nfa self.now) (dfa cache.now) line.now from place state
             → IsTrue answer ↔ HasRun (nfa self.now) line.now from) }
     {
         if place + 1 < line.len() {

@@ -5,7 +5,7 @@ ghost use Rattle.pg_match.specs.StateSets.{IsGood, HaveRoom, CountedAnew};
 ghost use Rattle.pg_match.specs.Steps.{Spread, Closed, Moved, Has, Goes, Starts, HitBefore, AnswersEnd, ReadsNone};
 ghost use Rattle.pg_match.specs.Steps.{begins_after, ends_before};
 ghost use Rattle.pg_match.specs.Stands.{HasRun};
-ghost use Rattle.pg_match.specs.Starts.{WithSeeds, SeedsMoved, GoesOn, StandsUnseeded, Searched};
+ghost use Rattle.pg_match.specs.Starts.{WithSeeds, SeedsMoved, ByteLeads, StandsUnseeded, Searched};
 ghost use Rattle.pg_match.specs.Views.{nfa, members, buffers, Tells, IsBuilt};
 
 use crate::automaton::Automaton;
@@ -210,7 +210,7 @@ impl<A: Allocator> Automaton<A> {
         requires room { HaveRoom (buffers sets.old) (length self.now.states.items) }
         requires visits { sets.old.visits < 2 ^ 100 }
         ensures room { HaveRoom (buffers sets.new) (length self.now.states.items) }
-        ensures goes { GoesOn self.now.states.items self.now.seeds.items byte (IsTrue begins)
+        ensures goes { ByteLeads self.now.states.items self.now.seeds.items byte (IsTrue begins)
             (Has (members sets.old.current)) (Has (members sets.new.current)) }
         ensures visits { sets.new.visits ≡ sets.old.visits + sets.new.current.len }
         ensures told { Tells sets.old sets.new }

@@ -2,7 +2,7 @@
 ghost use Rattle.std.specs.Prelude.{◌≡◌, ◌+◌, ◌-◌, ◌*◌, ◌^◌, ◌<◌, ◌≤◌};
 ghost use Rattle.std.specs.Prelude.{ℕ, length, is_none, IfOk, IfNone, IfSome, IsTrue, None, is_some, true};
 ghost use Rattle.pg_pattern.specs.Bounds.{MayBegin};
-ghost use Rattle.pg_match.specs.Anchored.{IsAlone};
+ghost use Rattle.pg_match.specs.Anchored.{IsLone};
 ghost use Rattle.pg_match.specs.StateSets.{IsGood, HaveRoom, mark};
 ghost use Rattle.pg_match.specs.Steps.{Has};
 ghost use Rattle.pg_match.specs.Closures.{IsClosed, IsOrdered, AllBelow};
@@ -229,7 +229,7 @@ impl<A: Allocator> Automaton<A> {
         ensures room { HaveRoom (buffers sets.new) (length self.now.states.items) }
         ensures best { IfNone result.1 (IsBestFrom (nfa self.now) line.now from result.0) }
         ensures left { IfSome result.1 (λ place. (place < far)
-            × IsAlone (nfa self.now) line.now from place (Has (members sets.new.current)) result.0) }
+            × IsLone (nfa self.now) line.now from place (Has (members sets.new.current)) result.0) }
         ensures visits { sets.new.visits
             ≤ sets.old.visits + (length line.now - at) * length self.now.states.items }
         ensures spare { IfSome result.1 (λ place. sets.new.visits + 4 * length self.now.states.items

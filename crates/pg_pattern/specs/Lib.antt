@@ -6,3 +6,4 @@ pub mod Hits
 pub mod Tests
 pub mod Parts
 pub mod Lengths
+pub mod Strings

@@ -2,8 +2,8 @@
 //!
 //! The definitions say which spans a tree matches (XBD 9.3 and 9.4), which of these are hits where -w or -x is given
 //! (XCU grep), and which parts of a line -o shows (GNU grep). `pg_syntax` reads texts to trees, and `pg_match` finds
-//! hits; neither needs the other. [`hit_reach`] tells both it and `pg_literal` how far a hit's end may lie from where it
-//! begins.
+//! hits; neither needs the other. [`hit_reach`] tells both it and `pg_literal` how far a hit's end may lie from where
+//! it begins.
 #![tactic(auto)]
 
 mod bounds;

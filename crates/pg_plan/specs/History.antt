@@ -78,8 +78,8 @@ pub record Past : Type 0 where
   pub failed : Bool
 
 -- nothing has happened yet
-abbrev pub start : Search → Format → Past
-start q format = record { query = q; format = format; events = []; written = []; failed = false }
+abbrev pub past_at_start : Search → Format → Past
+past_at_start q format = record { query = q; format = format; events = []; written = []; failed = false }
 
 -- behind a plan call
 abbrev pub planned : Past → Step → Past

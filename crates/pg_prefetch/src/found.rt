@@ -86,8 +86,8 @@ impl Found {
         })
     }
 
-    /// Lists the entry, if it is a directory that is to be visited, so that its entries are looked at ahead, too. Answers
-    /// whether they will be.
+    /// Lists the entry, if it is a directory that is to be visited, so that its entries are looked at ahead, too.
+    /// Answers whether they will be.
     pub(crate) fn list_ahead<R: Files + Wait + Copy + Drop>(
         &self,
         rt: R,

@@ -144,8 +144,8 @@ impl Prefetcher {
         kind
     }
 
-    /// Wakes the threads that sleep until less is held, once that is so; or a sleeping one, if there is enough to look at
-    /// for it.
+    /// Wakes the threads that sleep until less is held, once that is so; or a sleeping one, if there is enough to look
+    /// at for it.
     fn wake(&self) {
         let Some(shared) = &self.shared else {
             return;

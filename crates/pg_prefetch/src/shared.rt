@@ -171,8 +171,8 @@ impl Shared {
         self.wake(false);
     }
 
-    /// The directory at a path, if it was listed before the walk came to it. Those that the walk has passed by are given
-    /// up.
+    /// The directory at a path, if it was listed before the walk came to it. Those that the walk has passed by are
+    /// given up.
     pub(crate) fn take<R: Wait>(&self, rt: &R, path: &str) -> Option<Arc<Directory>>
         ensures { IfSome result (λ directory. string_bytes (arc_value directory).path ≡ path.now) }
     {

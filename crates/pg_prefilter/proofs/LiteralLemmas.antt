@@ -28,7 +28,7 @@ literals_are {A} text trees spelled literals alone needed enough =
           (needed (omega (arith, some, length-map literals (data_of {A = A}))) line
           (subst (Hit line) (same_trees text trees' trees spelled' spelled) hit));
       enough = All-map (IsEnough text) data_of literals (All-weaker
-          (λ (l : Literal A). IsTrue l.is_enough → P.IsEnough text.fold trees (bounds_of text) l.text.items)
+          (λ (l : Literal A). IsTrue l.is_enough → P.IsEnoughText text.fold trees (bounds_of text) l.text.items)
           (λ l. IsEnough text (data_of l)) (λ l says yes trees' spelled' line held.
           subst (Hit line) (same_trees text trees trees' spelled spelled') (says yes line held)) literals enough);
     }

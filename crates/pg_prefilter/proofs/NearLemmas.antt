@@ -19,7 +19,7 @@ use Rattle.pg_prefilter.specs.Literals.{AreLiterals, LiteralData, TellHeads, dat
 use Rattle.pg_pattern.specs.declared.bounds.Bounds.TheVariants.{Any}
 use Rattle.pg_selection.specs.Search.{SearchText, Pattern, Bounds, AreTreesOf, bounds_of}
 use Rattle.pg_selection.proofs.TreeLemmas.{same_trees}
-use Rattle.pg_prefilter.specs.Strings.{HitsIgnoreFront, IsNear, IsReachOf, FindsPart}
+use Rattle.pg_prefilter.specs.Strings.{HitsIgnoreFront, IsNear, IsTextReach, FindsPart}
 use Rattle.pg_prefilter.specs.declared.strings.NextString.TheVariants.{Nowhere, Behind}
 use Rattle.pg_prefilter.proofs.JudgeLemmas.{take_searched}
 use Rattle.pg_prefilter.proofs.NeedleLemmas.{next_none, next_some, occurs_whole, searched_behind}
@@ -123,7 +123,7 @@ front_known text trees bounds spelled same ignores trees' spelled' =
 
 -- how far matches of a text's trees reach, where any match counts
 pub reach_of_known : (text : SearchText) (trees : List Pattern) (found : Option ℕ) → AreTreesOf text trees
-    → bounds_of text ≡ Any → IfSome found (IsReach trees) → IfSome found (IsReachOf text)
+    → bounds_of text ≡ Any → IfSome found (IsReach trees) → IfSome found (IsTextReach text)
 reach_of_known text trees None spelled any known = tt
 reach_of_known text trees (Some reach) spelled any known = λ trees' spelled'.
     (any, subst (λ ts. IsReach ts reach) (same_trees text trees trees' spelled spelled') known)
@@ -154,7 +154,7 @@ take_occurs xs s p stop within o =
       short,
     )
 
-module _ (text : SearchText) (needle : List ℕ) (reach : ℕ) (reaches : IsReachOf text reach) (flag : Bool)
+module _ (text : SearchText) (needle : List ℕ) (reach : ℕ) (reaches : IsTextReach text reach) (flag : Bool)
     (are : AreLiterals text (flagged flag needle ∷ [])) (trees : List Pattern) (spelled : AreTreesOf text trees) where
   -- the only literal stands in each hit
   stands_within : (line : List ℕ) (i j : ℕ) → Hit trees Any line i j
@@ -183,7 +183,7 @@ module _ (text : SearchText) (needle : List ℕ) (reach : ℕ) (reaches : IsReac
 
 -- so it stands near where each begins, if it isn't empty
 pub reach_is_near : {A : Type 0} (text : SearchText) (literals : List (Literal A)) (e : Literal A) (reach before : ℕ)
-    → AreLiterals text (map data_of literals) → IsReachOf text reach → length literals ≡ 1
+    → AreLiterals text (map data_of literals) → IsTextReach text reach → length literals ≡ 1
     → 0 < length (get_or literals 0 e).text.items → reach ≡ length (get_or literals 0 e).text.items + before
     → IsNear text (get_or literals 0 e).text.items before
 reach_is_near text [] e reach before are known one some is = absurd (omega (arith, one))

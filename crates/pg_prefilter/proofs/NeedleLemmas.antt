@@ -17,7 +17,7 @@ use Rattle.pg_blocks.specs.Lines.{lines, IsLine}
 use Rattle.pg_prefilter.specs.Literals.{LiteralData}
 use Rattle.pg_selection.specs.Search.{SearchText, terminator_of}
 use Rattle.pg_prefilter.specs.Candidates.{AreWithout, IsFirstWith, IsLineAround}
-use Rattle.pg_prefilter.specs.Candidates.{literal_of, IsAhead, IsFoundBehind, StandsAt, IsBefore}
+use Rattle.pg_prefilter.specs.Candidates.{literal_of, IsAhead, IsFoundBehind, NeedleAt, IsBefore}
 use Rattle.pg_prefilter.specs.Candidates.{IsNeedleList}
 use Rattle.pg_prefilter.specs.declared.needle.Needle.{Needle}
 use Rattle.pg_prefilter.specs.declared.needle.NeedleList.{NeedleList}
@@ -138,7 +138,7 @@ to_literal needles n among = (
 
 -- a needle that was looked for stands at its place, which isn't before the one that all were asked for
 least_found : (searched : List ℕ) (at : ℕ) (needles : List Needle) (place : Place)
-    → All (IsFoundBehind searched at) needles → (stands : Any (StandsAt place) needles)
+    → All (IsFoundBehind searched at) needles → (stands : Any (NeedleAt place) needles)
     → (at ≤ place.at) × OccursAt searched stands.1.finder place.at
 least_found searched at needles place found stands =
     let n = stands.1 in
@@ -198,7 +198,7 @@ module _ (fold : Bool) (bytes searched : List ℕ) (at : ℕ) (needles : List Ne
       not_before p m (Some n) before some = omega arith
 
   -- a needle that was looked for stands within the bytes
-  pub stands_within : (place : Place) → All (IsFoundBehind searched at) needles → Any (StandsAt place) needles
+  pub stands_within : (place : Place) → All (IsFoundBehind searched at) needles → Any (NeedleAt place) needles
       → place.at ≤ length bytes
   stands_within place found stands =
       let here = least_found searched at needles place found stands in
@@ -207,7 +207,7 @@ module _ (fold : Bool) (bytes searched : List ℕ) (at : ℕ) (needles : List Ne
   -- the line around the least place
   pub line_of_least : (end : ℕ) (place : Place) (found : Candidate) → byte_as_searched fold end ≡ end
       → All (λ l. IsLine end l.text) (map literal_of needles) → All (IsFoundBehind searched at) needles
-      → Any (StandsAt place) needles → All (IsBefore (Some place)) needles → place.is_enough ≡ found.is_enough
+      → Any (NeedleAt place) needles → All (IsBefore (Some place)) needles → place.is_enough ≡ found.is_enough
       → 0 < length (drop at bytes) → IsLineAround end at (drop at bytes) (place.at - at) found.line
       → IsFirstWith fold end (map literal_of needles) at (drop at bytes) found
       × (found.line.start < found.line.end) × (found.line.end ≤ length bytes)
@@ -255,14 +255,14 @@ module _ (needles : List Needle) (i : ℕ) (n : Needle) (below : i < length need
   ]
 
   -- a needle stands there
-  pub stands_more : IfSome old (λ p. Any (StandsAt p) needles) → IfSome new (λ p. (old ≡ new) ⊎ StandsAt p n)
-      → IfSome new (λ p. Any (StandsAt p) needles)
+  pub stands_more : IfSome old (λ p. Any (NeedleAt p) needles) → IfSome new (λ p. (old ≡ new) ⊎ NeedleAt p n)
+      → IfSome new (λ p. Any (NeedleAt p) needles)
   stands_more before own = go old new before own
     where
-      go : (old new : Option Place) → IfSome old (λ p. Any (StandsAt p) needles)
-          → IfSome new (λ p. (old ≡ new) ⊎ StandsAt p n) → IfSome new (λ p. Any (StandsAt p) needles)
+      go : (old new : Option Place) → IfSome old (λ p. Any (NeedleAt p) needles)
+          → IfSome new (λ p. (old ≡ new) ⊎ NeedleAt p n) → IfSome new (λ p. Any (NeedleAt p) needles)
       go old None before own = tt
-      go old (Some p) before (inl same) = subst (λ o. IfSome o (λ q. Any (StandsAt q) needles)) same before
+      go old (Some p) before (inl same) = subst (λ o. IfSome o (λ q. Any (NeedleAt q) needles)) same before
       go old (Some p) before (inr stands) = (i, n, below, sym is, stands)
 
 -- a needle that was found anew is that of the same literal

@@ -14,7 +14,7 @@ use Rattle.pg_strings.specs.Sets.{SomeStands}
 use Rattle.pg_blocks.specs.Lines.{lines, IsLine}
 use Rattle.pg_selection.specs.Search.{SearchText, terminator_of}
 use Rattle.pg_prefilter.specs.Strings.{AreStrings, IsSetOf}
-use Rattle.pg_strings.specs.Keys.{items_of}
+use Rattle.pg_pattern.specs.Strings.{items_of}
 use Rattle.pg_strings.specs.Outcomes.{strings_of}
 use Rattle.pg_literal.specs.declared.literal.Literal.{Literal}
 use Rattle.pg_prefilter.specs.declared.literal_set.LiteralSet.{LiteralSet}

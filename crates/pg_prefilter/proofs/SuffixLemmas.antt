@@ -1,7 +1,7 @@
 -- Lines that are judged by their ends.
 use Rattle.std.proofs.Common.{◌≡◌, ℕ, ◌≤◌, List, length, Option, Some, None, arith, refl, subst}
 use Rattle.std.specs.Prelude.{IfOk, IfSome, Result, Ok, Err}
-use Rattle.pg_literal.specs.Suffixes.{EndsWith, IsSuffix, suffix_row}
+use Rattle.pg_literal.specs.Suffixes.{IsSuffixAt, IsSuffix, suffix_row}
 use Rattle.pg_literal.specs.declared.suffix.LineSuffix.{LineSuffix}
 use Rattle.pg_selection.specs.Search.{SearchText, Pattern, Bounds, AreTreesOf, bounds_of}
 use Rattle.pg_selection.proofs.TreeLemmas.{same_trees}
@@ -9,14 +9,14 @@ use Rattle.pg_prefilter.specs.Strings.{FindsPart, IsSuffixOf}
 use Rattle.pg_prefilter.specs.declared.strings.NextString.TheVariants.{Found}
 
 -- a suffix stands at one place of a line
-ends_once : {A : Type 0} (line : List ℕ) (suffix : LineSuffix A) (i k : ℕ) → EndsWith line (suffix_row suffix) i
-    → EndsWith line (suffix_row suffix) k → i ≡ k
+ends_once : {A : Type 0} (line : List ℕ) (suffix : LineSuffix A) (i k : ℕ) → IsSuffixAt line (suffix_row suffix) i
+    → IsSuffixAt line (suffix_row suffix) k → i ≡ k
 ends_once line suffix i k a b = omega (arith, a.1, b.1)
 
 -- a line that ends with the suffix at a place or behind it
 pub suffix_found : {A : Type 0} (trees : List Pattern) (bounds : Bounds) (suffix : LineSuffix A)
     → IsSuffix trees bounds (suffix_row suffix) → (line : List ℕ) (from start : ℕ)
-    → EndsWith line (suffix_row suffix) start → from ≤ start
+    → IsSuffixAt line (suffix_row suffix) start → from ≤ start
     → FindsPart trees bounds line from (Found (record { start = start; end = length line }))
 suffix_found trees bounds suffix is line from start ends later = record {
   later = later;

@@ -100,8 +100,8 @@ IsFoundBehind searched at needle =
     IfSome needle.next (λ place. (at ≤ place) × OccursAt searched needle.finder place)
 
 -- the needle stands at the place
-abbrev pub StandsAt : Place → Needle → Type 0
-StandsAt place needle = (needle.next ≡ Some place.at) × (needle.is_enough ≡ place.is_enough)
+abbrev pub NeedleAt : Place → Needle → Type 0
+NeedleAt place needle = (needle.next ≡ Some place.at) × (needle.is_enough ≡ place.is_enough)
 
 -- the place, if there is one, isn't behind that of the needle
 abbrev pub IsBefore : Option Place → Needle → Type 0

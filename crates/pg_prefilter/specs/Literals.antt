@@ -11,7 +11,7 @@ use Rattle.pg_strings.specs.Outcomes.{strings_of}
 use Rattle.pg_prefilter.specs.declared.literal_set.LiteralSet.{LiteralSet}
 use Rattle.pg_blocks.specs.Lines.{IsLine}
 use Rattle.pg_selection.specs.Search.{SearchText, Pattern, AreTreesOf, bounds_of, search_of, terminator_of}
-use Rattle.pg_selection.specs.Selection.{HasHit}
+use Rattle.pg_selection.specs.Selection.{HasMatch}
 
 -- a literal as plain data
 pub record LiteralData : Type 0 where
@@ -42,14 +42,14 @@ HoldsOne fold literals line = Any (λ literal. Holds fold line literal.text) lit
 abbrev pub IsEnough : SearchText → LiteralData → Type 0
 IsEnough text literal =
     IsTrue literal.is_enough → (trees : List Pattern) → AreTreesOf text trees → (line : List ℕ)
-    → Holds text.fold line literal.text → HasHit (search_of text trees) line
+    → Holds text.fold line literal.text → HasMatch (search_of text trees) line
 
 -- Texts without the terminator, whose flags say truly which of them are enough. Where there are any, each line with a
 -- hit holds one of them.
 pub record AreLiterals (text : SearchText) (literals : List LiteralData) : Type 0 where
   pub lines : All (λ literal. IsLine (terminator_of text) literal.text) literals
   pub needed : 0 < length literals → (trees : List Pattern) → AreTreesOf text trees → (line : List ℕ)
-      → HasHit (search_of text trees) line → HoldsOne text.fold literals line
+      → HasMatch (search_of text trees) line → HoldsOne text.fold literals line
   pub enough : All (IsEnough text) literals
 
 -- Where all literals are told to be heads, no hit is empty, and each begins with one of them; with -i in the line in
@@ -73,6 +73,6 @@ pub record IsRowOf {A : Type 0} (text : SearchText) (finder : RowFinder A) : Typ
   pub some : 0 < length (finder_row finder)
   pub within : All (λ set. set (terminator_of text) ≡ true → ⊥) (finder_row finder)
   pub needed : (trees : List Pattern) → AreTreesOf text trees → (line : List ℕ) → IsLine (terminator_of text) line
-      → HasHit (search_of text trees) line → HoldsRow (finder_row finder) line
+      → HasMatch (search_of text trees) line → HoldsRow (finder_row finder) line
   pub enough : IsTrue finder.is_enough → (trees : List Pattern) → AreTreesOf text trees → (line : List ℕ)
-      → HoldsRow (finder_row finder) line → HasHit (search_of text trees) line
+      → HoldsRow (finder_row finder) line → HasMatch (search_of text trees) line

@@ -106,8 +106,8 @@ IsNear text near before =
     → (i < j) × ((place : ℕ) × (i ≤ place) × (place ≤ i + before) × OccursAt (as_searched text.fold line) near place)
 
 -- any match counts, each hit of the search is one by itself, and where one begins, one ends within so many bytes
-abbrev pub IsReachOf : SearchText → ℕ → Type 0
-IsReachOf text reach = (trees : List Pattern) → AreTreesOf text trees → (bounds_of text ≡ B.Any) × IsReach trees reach
+abbrev pub IsTextReach : SearchText → ℕ → Type 0
+IsTextReach text reach = (trees : List Pattern) → AreTreesOf text trees → (bounds_of text ≡ B.Any) × IsReach trees reach
 
 -- the hits of the search behind a place of a line are those of the rest of the line
 abbrev pub HitsIgnoreFront : SearchText → Type 0

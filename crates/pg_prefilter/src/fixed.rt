@@ -2,7 +2,7 @@
 ghost use Rattle.std.specs.Prelude.{◌≡◌, IfOk, map};
 ghost use Rattle.pg_grammar.specs.Slices.{bytes_of};
 ghost use Rattle.pg_literal.specs.Literals.{as_searched};
-ghost use Rattle.pg_strings.specs.Keys.{items_of};
+ghost use Rattle.pg_pattern.specs.Strings.{items_of};
 ghost use Rattle.pg_prefilter.specs.Fixed.{AreStringLiterals, IsStringLiteral};
 ghost use Rattle.pg_prefilter.specs.Strings.{without_empty};
 

@@ -1,7 +1,7 @@
 //! Many literals, prepared to be looked for together.
 ghost use Rattle.std.specs.Prelude.{◌≡◌, ◌⊎◌, ◌<◌, ◌≤◌, [], length, map, IsTrue, IfOk, IfSome, IsSomeAnd};
 ghost use Rattle.std.specs.List.{All};
-ghost use Rattle.pg_strings.specs.Keys.{items_of};
+ghost use Rattle.pg_pattern.specs.Strings.{items_of};
 ghost use Rattle.pg_strings.specs.Outcomes.{strings_of};
 
 use pg_literal::{FEW_TEXTS, Literal};

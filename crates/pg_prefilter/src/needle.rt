@@ -4,7 +4,7 @@ ghost use Rattle.std.specs.Prelude.{IfOk, IfSome, IfNone, IsSomeAnd};
 ghost use Rattle.std.specs.List.{All, Any};
 ghost use Rattle.pg_selection.specs.Search.{terminator_of};
 ghost use Rattle.pg_prefilter.specs.Literals.{data_of};
-ghost use Rattle.pg_prefilter.specs.Candidates.{literal_of, IsAhead, StandsAt, IsBefore, IsNeedleList};
+ghost use Rattle.pg_prefilter.specs.Candidates.{literal_of, IsAhead, NeedleAt, IsBefore, IsNeedleList};
 ghost use Rattle.pg_prefilter.specs.Candidates.{AreWithout, IsFirstWith, IsFoundBehind};
 
 use crate::candidate::Candidate;
@@ -71,7 +71,7 @@ impl<'n> Needle<'n> {
 
     /// The lesser of a place and the needle's own; where both are one, that of a needle that is enough.
     fn or_before(&self, other: Option<Place>) -> Option<Place>
-        ensures stands { IfSome result (λ place. (other ≡ result) ⊎ StandsAt place self.now) }
+        ensures stands { IfSome result (λ place. (other ≡ result) ⊎ NeedleAt place self.now) }
         ensures least { IsBefore result self.now }
         ensures other { IfSome other (λ place. IsSomeAnd result (λ least. least.at ≤ place.at)) }
     {
@@ -149,7 +149,7 @@ impl<'n, A: Allocator> NeedleList<'n, A> {
 
     /// The least place.
     fn first(&self) -> Option<Place>
-        ensures stands { IfSome result (λ place. Any (StandsAt place) self.now.needles.items) }
+        ensures stands { IfSome result (λ place. Any (NeedleAt place) self.now.needles.items) }
         ensures least { All (IsBefore result) self.now.needles.items }
     {
         let mut first = None;

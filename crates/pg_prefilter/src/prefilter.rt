@@ -10,7 +10,7 @@ ghost use Rattle.pg_literal.specs.Literals.{as_searched};
 ghost use Rattle.pg_prefilter.specs.Fixed.{AreFixed};
 ghost use Rattle.pg_prefilter.specs.Literals.{AreLiterals, IsRowOf, TellHeads, data_of};
 ghost use Rattle.pg_strings.specs.Outcomes.{strings_of};
-ghost use Rattle.pg_prefilter.specs.Strings.{AreNonEmpty, HitsIgnoreFront, IsReachOf, IsSetOf, IsSuffixOf};
+ghost use Rattle.pg_prefilter.specs.Strings.{AreNonEmpty, HitsIgnoreFront, IsTextReach, IsSetOf, IsSuffixOf};
 ghost use Rattle.pg_prefilter.specs.Prefilters.{IsPrefilterOf};
 
 use crate::fixed::{have_empty, string_literals, with_bytes};
@@ -146,7 +146,7 @@ impl<A: Allocator> Prefilter<A> {
     /// How many bytes at most a match needs from where it begins: wherever a match begins, one ends within so many
     /// bytes, and each match is one by itself. `None` where such a bound isn't known, or not any match counts.
     pub fn reach(&self) -> Option<usize>
-        ensures { (text : SearchText) → IsPrefilterOf text self.now → IfSome result (IsReachOf text) }
+        ensures { (text : SearchText) → IsPrefilterOf text self.now → IfSome result (IsTextReach text) }
     {
         self.reach
     }
@@ -292,7 +292,7 @@ fn ignores_front<A: Allocator>(text: &QueryText<A>, trees: &[Tree<A>]) -> bool
 /// match counts and such a bound is known.
 fn reach_of<A: Allocator>(text: &QueryText<A>, trees: &[Tree<A>]) -> Option<usize>
     requires trees { AreTreesOf text.now (map pattern trees.now) }
-    ensures { IfSome result (IsReachOf text.now) }
+    ensures { IfSome result (IsTextReach text.now) }
 {
     match text.bounds() {
         Bounds::Any => reach(trees),

@@ -6,7 +6,7 @@ ghost use Rattle.pg_selection.specs.Search.{SearchText, Pattern, Bounds, AreTree
 ghost use Rattle.pg_prefilter.specs.Literals.{AreLiterals, TellHeads, data_of};
 ghost use Rattle.pg_literal.specs.Literals.{as_searched};
 ghost use Rattle.pg_literal.specs.Suffixes.{IsSuffix, suffix_row};
-ghost use Rattle.pg_prefilter.specs.Strings.{FindsString, FindsPart, IsNear, IsReachOf, JudgesLine};
+ghost use Rattle.pg_prefilter.specs.Strings.{FindsString, FindsPart, IsNear, IsTextReach, JudgesLine};
 ghost use Rattle.pg_prefilter.specs.Strings.{first_judge, of_all};
 ghost use Rattle.pg_prefilter.specs.declared.strings.LineJudge.TheVariants.{Nothing};
 
@@ -206,7 +206,7 @@ pub fn near_text<'l, A: Allocator>(
 ) -> Option<NearText<'l>>
     requires heads { TellHeads text.now literals.now }
     requires literals { AreLiterals text.now (map data_of literals.now) }
-    requires reach { IfSome reach (IsReachOf text.now) }
+    requires reach { IfSome reach (IsTextReach text.now) }
     ensures near { IfSome result (λ near. IsNear text.now near.finder near.before) }
     ensures some { IfSome result (λ _. 0 < length literals.now) }
 {

@@ -1,7 +1,7 @@
 //! The reader of the open file.
 ghost use Rattle.std.specs.Prelude.{◌≡◌, ◌≢◌, ◌<◌, vec_len, length, true, false, IfSome, IfNone, OnOk};
 ghost use Rattle.pg_blocks.specs.Cutter.{IsCutterAfter, CutterPast, IsDrained, IsNextBlock, AreAllBlocks};
-ghost use Rattle.pg_blocks.specs.Cutter.{handed, handed_early, HasLinesLeft, KeepsCutter, room_of, unfed};
+ghost use Rattle.pg_blocks.specs.Cutter.{past_handed, handed_early, HasLinesLeft, KeepsCutter, room_of, unfed};
 
 use crate::reader::Reader;
 use pg_blocks::{Block, CutFault, Cutter};
@@ -157,8 +157,8 @@ impl<A: Allocator + Copy> FileReader<A> {
         self.cutter.make_room()
     }
 
-    /// Takes what is left of the open file, with its memory, if that is in memory already and isn't too long, and cuts it.
-    /// The file may be read further. The answer says whether it was taken.
+    /// Takes what is left of the open file, with its memory, if that is in memory already and isn't too long, and cuts
+    /// it. The file may be read further. The answer says whether it was taken.
     fn take_buffered<F: Files<Alloc = A>>(&mut self, files: &mut F) -> bool
         requires { MayBeRead self.old (F.past files.old).given }
         ensures reads { HasReadOn F.past F.list self.old files.old self.new files.new }
@@ -249,7 +249,7 @@ impl<A: Allocator + Copy> FileReader<A> {
     pub fn take(&mut self) -> Option<Block<A>>
         ensures came { self.new.came ≡ self.old.came }
         ensures stands { (past : CutterPast) → IsCutterAfter self.old.cutter past →
-            IsCutterAfter self.new.cutter (handed past result) }
+            IsCutterAfter self.new.cutter (past_handed past result) }
         ensures next { IfSome result (λ block.
             (past : CutterPast) → IsCutterAfter self.old.cutter past → IsNextBlock past block) }
         ensures none { IfNone result (IsDrained self.new.cutter) }
@@ -278,7 +278,8 @@ impl<A: Allocator + Copy> FileReader<A> {
     /// reader has no file then until another is opened.
     pub fn finish(&mut self) -> Option<Block<A>>
         requires { IsDrained self.old.cutter }
-        ensures all { (past : CutterPast) → IsCutterAfter self.old.cutter past → AreAllBlocks (handed past result) }
+        ensures all { (past : CutterPast) → IsCutterAfter self.old.cutter past
+            → AreAllBlocks (past_handed past result) }
         ensures none { HasNoFile self.new }
         ensures came { self.new.came ≡ self.old.came }
     {

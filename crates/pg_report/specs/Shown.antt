@@ -19,13 +19,13 @@ abbrev pub is_printable : ℕ → Bool
 is_printable byte = nat_le 32 byte && nat_le byte 126
 
 -- the text can be shown on one line, and the place is one of it or right behind it
-abbrev pub is_shown : List ℕ → (at : ℕ) → Bool
-is_shown text at = nat_le (length text) 200 && nat_le at (length text) && list_all is_printable text
+abbrev pub can_be_shown : List ℕ → (at : ℕ) → Bool
+can_be_shown text at = nat_le (length text) 200 && nat_le at (length text) && list_all is_printable text
 
 -- the text of the pattern with the fault, where it is shown; the texts are those of -e, or PATTERN
-abbrev pub shown_text : List (List ℕ) → ListFault → Option (List ℕ)
-shown_text texts f =
-    option_and_then (λ text. if is_shown text f.fault.at then Some text else None) (pattern_text texts f.pattern)
+abbrev pub pattern_shown : List (List ℕ) → ListFault → Option (List ℕ)
+pattern_shown texts f =
+    option_and_then (λ text. if can_be_shown text f.fault.at then Some text else None) (pattern_text texts f.pattern)
 
 -- what to write in place of a backslash and this byte
 abbrev pub escape_advice : ℕ → List ℕ

@@ -6,7 +6,7 @@ use Rattle.pg_grammar.specs.declared.fault.ListFault.{ListFault}
 use Rattle.pg_base.specs.Sink.{Stream, WritesAll, WritesPart}
 use Rattle.pg_base.specs.Causes.{fault_line as file_line}
 use Rattle.pg_words.specs.Usage.{usage_text}
-use Rattle.pg_report.specs.Shown.{shown_lines, shown_text}
+use Rattle.pg_report.specs.Shown.{shown_lines, pattern_shown}
 use Rattle.pg_request.specs.declared.fault.Fault.{Fault}
 use Rattle.pg_request.specs.declared.fault.Fault.TheVariants.{NotText, Usage, Unreadable, Pattern, TooLarge}
 use Rattle.pg_request.specs.declared.fault.Fault.TheVariants.{OutOfMemory, WriteFailed, TooManyFiles, LineTooLong}
@@ -40,15 +40,15 @@ lines_of_pattern None f = pattern_line f
 lines_of_pattern (Some text) f = pattern_line f ++ shown_lines text f
 
 -- the lines of a fault of a search for the patterns of these texts
-abbrev pub lines_of : (texts : List (List ℕ)) → Fault → List ℕ
-lines_of texts (Pattern fault) = lines_of_pattern (shown_text texts fault) fault
-lines_of texts fault = line_of fault
+abbrev pub lines_of_fault : (texts : List (List ℕ)) → Fault → List ℕ
+lines_of_fault texts (Pattern fault) = lines_of_pattern (pattern_shown texts fault) fault
+lines_of_fault texts fault = line_of fault
 
 -- the fault is about neither a file nor a pattern
-abbrev pub IsPlain : Fault → Type 0
-IsPlain (Unreadable name cause) = ⊥
-IsPlain (Pattern fault) = ⊥
-IsPlain fault = Unit {0}
+abbrev pub IsPlainFault : Fault → Type 0
+IsPlainFault (Unreadable name cause) = ⊥
+IsPlainFault (Pattern fault) = ⊥
+IsPlainFault fault = Unit {0}
 
 -- the text was written; or a beginning of it, and standard error failed
 abbrev pub TellsText : List ℕ → Stream → Stream → Type 0
@@ -56,7 +56,7 @@ TellsText text err err' = WritesAll text err err' ⊎ WritesPart text err err'
 
 -- the lines of a fault of a search were written; or a beginning of them, and standard error failed
 abbrev pub TellsOfSearch : (texts : List (List ℕ)) → Fault → Stream → Stream → Type 0
-TellsOfSearch texts fault = TellsText (lines_of texts fault)
+TellsOfSearch texts fault = TellsText (lines_of_fault texts fault)
 
 -- the line of a fault was written; or a beginning of it, and standard error failed
 abbrev pub TellsFault : Fault → Stream → Stream → Type 0

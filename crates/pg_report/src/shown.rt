@@ -2,8 +2,9 @@
 ghost use Rattle.std.specs.Prelude.{◌≡◌, ◌≤◌, IfSome, option_map, replicate, slice_index, true};
 ghost use Rattle.std.specs.List.{list_all, list_any};
 ghost use Rattle.pg_grammar.specs.Slices.{bytes_of};
-ghost use Rattle.pg_report.specs.Shown.{advice, escape_advice, has_newline, interval_advice, is_printable, is_shown};
-ghost use Rattle.pg_report.specs.Shown.{pattern_text, shown_text};
+ghost use Rattle.pg_report.specs.Shown.{advice, escape_advice, has_newline, interval_advice, is_printable};
+ghost use Rattle.pg_report.specs.Shown.{can_be_shown};
+ghost use Rattle.pg_report.specs.Shown.{pattern_text, pattern_shown};
 
 use pg_grammar::{FaultKind, ListFault};
 
@@ -16,7 +17,7 @@ static BLANKS: [u8; MAX_SHOWN] = [b' '; MAX_SHOWN];
 /// The text of a pattern with a fault, where it can be shown: it has at most 200 bytes, which are printable ASCII, and
 /// no text has several patterns.
 pub(crate) fn shown_text<'a>(texts: &[&'a str], fault: ListFault) -> Option<&'a str>
-    ensures exact { option_map (λ text. text.now) result ≡ shown_text (bytes_of texts.now) fault }
+    ensures exact { option_map (λ text. text.now) result ≡ pattern_shown (bytes_of texts.now) fault }
     ensures within { IfSome result (λ _. fault.fault.at ≤ 200) }
 {
     match pattern_text(texts, fault.pattern) {
@@ -56,7 +57,7 @@ fn has_newline(text: &str) -> bool
 
 /// Whether a text can be shown on one line, with a mark under the place or right behind the text.
 fn is_shown(text: &str, at: usize) -> bool
-    ensures exact { result ≡ is_shown text.now at }
+    ensures exact { result ≡ can_be_shown text.now at }
     ensures within { result ≡ true → at ≤ 200 }
 {
     text.len() <= MAX_SHOWN && at <= text.len() && are_printable(text.as_bytes())

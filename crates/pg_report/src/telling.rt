@@ -3,8 +3,8 @@ ghost use Rattle.std.specs.Prelude.{◌≡◌, ◌++◌, ◌≤◌, codes};
 ghost use Rattle.std.specs.List.{flat_map};
 ghost use Rattle.pg_grammar.specs.Slices.{bytes_of};
 ghost use Rattle.pg_base.specs.Causes.{fault_line as file_line};
-ghost use Rattle.pg_report.specs.Shown.{shown_lines, shown_text};
-ghost use Rattle.pg_report.specs.Told.{IsPlain, TellsFault, TellsOfSearch, TellsText, line_of, lines_of_pattern};
+ghost use Rattle.pg_report.specs.Shown.{shown_lines, pattern_shown};
+ghost use Rattle.pg_report.specs.Told.{IsPlainFault, TellsFault, TellsOfSearch, TellsText, line_of, lines_of_pattern};
 ghost use Rattle.pg_report.specs.Told.{pattern_line, plain_line};
 
 use crate::shown::{advice, blanks, byte_at, shown_text};
@@ -19,7 +19,7 @@ pub const FAULT_STATUS: u8 = 2;
 
 /// What a fault's line says is wrong, where that is neither about a file nor about a pattern.
 fn reason_of(fault: Fault<'_>) -> &'static str
-    ensures { IsPlain fault.entry → line_of fault.entry ≡ plain_line result.now }
+    ensures { IsPlainFault fault.entry → line_of fault.entry ≡ plain_line result.now }
 {
     match fault {
         Fault::NotText => "an argument is not UTF-8",
@@ -98,7 +98,7 @@ fn tell_pattern<W: Sink>(alloc: Global, fault: ListFault, err: &mut W)
 
 /// Writes the lines of a pattern's fault, with the pattern, if it is one of these texts and can be shown.
 fn tell_pattern_of<W: Sink>(alloc: Global, texts: &[&str], fault: ListFault, err: &mut W)
-    ensures { TellsText (lines_of_pattern (shown_text (bytes_of texts.now) fault) fault) (W.stream err.old)
+    ensures { TellsText (lines_of_pattern (pattern_shown (bytes_of texts.now) fault) fault) (W.stream err.old)
         (W.stream err.new) }
 {
     match shown_text(texts, fault) {

@@ -67,16 +67,16 @@ abbrev pub input_name : Asked → List ℕ
 input_name asked = unwrap_or asked.label standard_input
 
 -- there are two operands or more
-abbrev pub are_several : List (List ℕ) → Bool
-are_several [] = false
-are_several (file ∷ []) = false
-are_several (file ∷ other ∷ files) = true
+abbrev pub are_several_operands : List (List ℕ) → Bool
+are_several_operands [] = false
+are_several_operands (file ∷ []) = false
+are_several_operands (file ∷ other ∷ files) = true
 
 -- rows have names: always, never, or where there are several operands or a directory is visited
 abbrev pub has_names : Naming → (files : List (List ℕ)) → (recursive directory : Bool) → Bool
 has_names Always files recursive directory = true
 has_names Never files recursive directory = false
-has_names BySeveral files recursive directory = are_several files || (recursive && directory)
+has_names BySeveral files recursive directory = are_several_operands files || (recursive && directory)
 
 -- a rule for files
 abbrev pub file_rule : Bool → List ℕ → Rule

@@ -10,7 +10,7 @@ use Rattle.pg_plan.specs.Drains.{Drained, drained, IsSafe}
 use Rattle.pg_plan.specs.declared.answers.SinkFault.{SinkFault}
 use Rattle.pg_plan.specs.declared.answers.SinkFault.TheVariants.{WriteFailed, Failed}
 use Rattle.pg_plan.proofs.BeginLemmas.{begins_trans}
-use Rattle.pg_round.specs.Receipts.{WroteSafely, HasWritten, Takes}
+use Rattle.pg_round.specs.Receipts.{WroteSafely, HasWritten, TakesResults}
 use Rattle.pg_round.specs.declared.fault.RoundFault.TheVariants.{Sink}
 use Rattle.std.proofs.Math.Bool.{or-false}
 
@@ -53,7 +53,7 @@ drain_failed last past Failed before after m m' n safe cause t =
 -- a drain that succeeds, and one that fails
 pub drain_writes : {T : Type 0} (x : T) (stands last : Past → Type 0) (before after : Stream)
     → after.failures ≡ before.failures → ToldSafely stands last (Ok tt) before.taken after.taken
-    → Takes (Ok x) stands (HasWritten last []) before after
+    → TakesResults (Ok x) stands (HasWritten last []) before after
 drain_writes x stands last before after calm told = record {
   calm = calm;
   outcome = λ past st n s. let t = told past st in drain_ok last past before.taken after.taken t.0 t.1;
@@ -62,7 +62,7 @@ drain_writes x stands last before after calm told = record {
 pub drain_breaks : {T : Type 0} (f : SinkFault) (stands last : Past → Type 0)
     (took : Past → List ℕ → List ℕ → Type 0) (before after : Stream)
     → (IsErrOf {T = Unit {0}} (Err f) WriteFailed → before.failures < after.failures)
-    → ToldSafely stands last (Err f) before.taken after.taken → Takes {T = T} (Err Sink) stands took before after
+    → ToldSafely stands last (Err f) before.taken after.taken → TakesResults {T = T} (Err Sink) stands took before after
 drain_breaks f stands last took before after cause told = record {
   calm = tt;
   outcome = λ past st n s.

@@ -9,7 +9,7 @@ use Rattle.pg_plan.specs.History.{Past, Event, Arrived, plan_of, handed, arrived
 use Rattle.pg_board.specs.Merge.{IsMerge}
 use Rattle.pg_round.specs.Receipts.{arrivals, received, HasReceived, WroteSafely, HasWritten}
 use Rattle.pg_plan.specs.Drains.{IsSafe}
-use Rattle.pg_round.specs.Receipts.{HasDelivered, HasRound, Takes}
+use Rattle.pg_round.specs.Receipts.{HasDelivered, HasRound, TakesResults}
 use Rattle.pg_workers.specs.Results.{HasAll}
 use Rattle.pg_round.specs.declared.fault.RoundFault.{RoundFault}
 use Rattle.pg_round.specs.declared.fault.RoundFault.TheVariants.{OutOfMemory, Sink}
@@ -83,7 +83,8 @@ module _ (mid : Past → Type 0) (past : Past) (rs : List SearchedBlock) (before
 
 -- What results come to that are taken one part after another.
 module _ (stands : Past → Type 0) where
-  pub takes_none : {T : Type 0} (x : T) (before : Stream) → Takes (Ok x) stands (HasReceived stands []) before before
+  pub takes_none : {T : Type 0} (x : T) (before : Stream)
+      → TakesResults (Ok x) stands (HasReceived stands []) before before
   takes_none x before = record {
     calm = refl;
     outcome = λ past st n s. (
@@ -95,21 +96,21 @@ module _ (stands : Past → Type 0) where
 
   -- nothing was begun
   pub takes_no_memory : {T : Type 0} (took : Past → List ℕ → List ℕ → Type 0) (before : Stream)
-      → Takes {T = T} (Err OutOfMemory) stands took before before
+      → TakesResults {T = T} (Err OutOfMemory) stands took before before
   takes_no_memory took before = record {
     calm = refl;
     outcome = λ past st n s. let h = (takes_none {T = Unit {0}} tt before).outcome past st n s in ((h.0, h.1), tt);
   }
 
   pub takes_value : {T U : Type 0} (x : T) (y : U) (took : Past → List ℕ → List ℕ → Type 0) (before after : Stream)
-      → Takes (Ok x) stands took before after → Takes (Ok y) stands took before after
+      → TakesResults (Ok x) stands took before after → TakesResults (Ok y) stands took before after
   takes_value x y took before after h = record { calm = h.calm; outcome = h.outcome }
 
   -- a result arrives before what it lets be written
   pub takes_arrival : {T : Type 0} (result : Result T RoundFault) (mid last : Past → Type 0) (r : SearchedBlock)
       (before after : Stream) → ((past : Past) → stands past → mid (arrived past r))
-      → Takes result mid (HasWritten last []) before after
-      → Takes result stands (HasReceived last (r ∷ [])) before after
+      → TakesResults result mid (HasWritten last []) before after
+      → TakesResults result stands (HasReceived last (r ∷ [])) before after
   takes_arrival (Ok x) mid last r before after arrives h = record {
     calm = h.calm;
     outcome = λ past st n s. let k = h.outcome (arrived past r) (arrives past st) n s in (k.0, k.1, k.2);
@@ -120,15 +121,15 @@ module _ (stands : Past → Type 0) where
   }
 
   pub takes_fault : {T U : Type 0} (fault : RoundFault) (took took' : Past → List ℕ → List ℕ → Type 0)
-      (before after : Stream) → Takes {T = T} (Err fault) stands took before after
-      → Takes {T = U} (Err fault) stands took' before after
+      (before after : Stream) → TakesResults {T = T} (Err fault) stands took before after
+      → TakesResults {T = U} (Err fault) stands took' before after
   takes_fault fault took took' before after h = record { calm = h.calm; outcome = h.outcome }
 
   module _ {T : Type 0} (x : T) (mid : Past → Type 0) (rs : List SearchedBlock) (before between : Stream)
-      (first : Takes (Ok x) stands (HasReceived mid rs) before between) where
+      (first : TakesResults (Ok x) stands (HasReceived mid rs) before between) where
     -- what was received is safe, also where nothing more comes
     pub takes_refused : {U : Type 0} (took : Past → List ℕ → List ℕ → Type 0)
-        → Takes {T = U} (Err OutOfMemory) stands took before between
+        → TakesResults {T = U} (Err OutOfMemory) stands took before between
     takes_refused took = record {
       calm = first.calm;
       outcome = λ past st n s. let h = first.outcome past st n s in ((h.0, h.1), tt);
@@ -138,7 +139,7 @@ module _ (stands : Past → Type 0) where
         (after : Stream)
         → ((past : Past) (h : HasReceived mid rs past before.taken between.taken)
         → took' (received past rs h.0) between.taken after.taken → took past before.taken after.taken)
-        → Takes result mid took' between after → Takes result stands took before after
+        → TakesResults result mid took' between after → TakesResults result stands took before after
     takes_then (Ok y) took' took after join h = record {
       calm = h.calm ∙ first.calm;
       outcome = λ past st n s.
@@ -163,8 +164,8 @@ module _ (stands : Past → Type 0) where
     }
 
     pub takes_more : {U : Type 0} (result : Result U RoundFault) (last : Past → Type 0) (ts all : List SearchedBlock)
-        (after : Stream) → all ≡ rs ++ ts → Takes result mid (HasReceived last ts) between after
-        → Takes result stands (HasReceived last all) before after
+        (after : Stream) → all ≡ rs ++ ts → TakesResults result mid (HasReceived last ts) between after
+        → TakesResults result stands (HasReceived last all) before after
     takes_more result last ts all after e h =
         takes_then result (HasReceived last ts) (HasReceived last all) after
         (λ past f k. subst (λ (l : List SearchedBlock). HasReceived last l past before.taken after.taken) (sym e)
@@ -173,8 +174,8 @@ module _ (stands : Past → Type 0) where
     -- the last drain
     pub takes_delivered : {U : Type 0} (result : Result U RoundFault) (last : Past → Type 0)
         (lists : List (List SearchedBlock)) (taken out : List SearchedBlock) (after : Stream) → out ≡ taken ++ rs
-        → IsMerge lists out → Takes result mid (HasWritten last []) between after
-        → Takes result stands (HasDelivered last lists taken) before after
+        → IsMerge lists out → TakesResults result mid (HasWritten last []) between after
+        → TakesResults result stands (HasDelivered last lists taken) before after
     takes_delivered result last lists taken out after e merge h =
         takes_then result (HasWritten last []) (HasDelivered last lists taken) after
         (λ past f k. (
@@ -190,12 +191,12 @@ module _ (stands : Past → Type 0) where
         (taken : List SearchedBlock)
         (after : Stream)
         → taken ≡ rs → ((all : List SearchedBlock) → IsMerge lists all → HasAll finds blocks all)
-        → Takes result mid (HasDelivered last lists taken) between after
-        → Takes result stands (HasRound last finds blocks) before after
+        → TakesResults result mid (HasDelivered last lists taken) between after
+        → TakesResults result stands (HasRound last finds blocks) before after
     takes_round result last finds blocks lists taken after e all h =
         takes_then result (HasDelivered last lists rs) (HasRound last finds blocks) after
         (λ past f k. (
           rs ++ k.0,
           all (rs ++ k.0) k.1,
           writes_then mid past rs before.taken between.taken after.taken f last k.0 k.2,
-        )) (subst (λ (l : List SearchedBlock). Takes result mid (HasDelivered last lists l) between after) e h)
+        )) (subst (λ (l : List SearchedBlock). TakesResults result mid (HasDelivered last lists l) between after) e h)

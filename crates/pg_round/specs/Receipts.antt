@@ -62,7 +62,7 @@ FailedBy Sink before after = before.failures < after.failures
 
 -- How the taking of results ended, whatever past the collector stood after, if all is safe that was written by then: at
 -- Ok this came of it, and at Err something safe was written. No write failed, unless that is the fault.
-pub record Takes {T : Type 0} (result : Result T RoundFault) (stands : Past → Type 0)
+pub record TakesResults {T : Type 0} (result : Result T RoundFault) (stands : Past → Type 0)
     (took : Past → (before after : List ℕ) → Type 0) (before after : Stream) : Type 0 where
   pub calm : MatchResult result (λ _. after.failures ≡ before.failures) (λ fault. NoOtherFailed fault before after)
   pub outcome : (past : Past) → stands past → past.failed ≡ false → IsSafe past past.written →

@@ -2,7 +2,7 @@
 ghost use Rattle.std.specs.Prelude.{◌≡◌, ◌∷◌, [], IfErr};
 ghost use Rattle.pg_selection.specs.Searched.{SearchedBlock};
 ghost use Rattle.pg_reader.specs.Going.{HasGoneOn};
-ghost use Rattle.pg_round.specs.Receipts.{HasDelivered, HasReceived, Takes};
+ghost use Rattle.pg_round.specs.Receipts.{HasDelivered, HasReceived, TakesResults};
 ghost use Rattle.pg_round.specs.declared.fault.RoundFault.TheVariants.{Sink as SinkFailed};
 
 use crate::fault::RoundFault;
@@ -60,7 +60,7 @@ fn receive<A: Allocator, S: Collector<BlockResult<A>>, W: Sink>(
     found: BlockResult<A>,
 ) -> Result<(), RoundFault>
     requires sees { (found : SearchedBlock) → S.searched found ≡ found }
-    ensures took { Takes result (S.stands collector.old) (HasReceived (S.stands collector.new) (found ∷ []))
+    ensures took { TakesResults result (S.stands collector.old) (HasReceived (S.stands collector.new) (found ∷ []))
         (W.stream out.old) (W.stream out.new) }
     ensures fault { IfErr result (λ fault. fault ≡ SinkFailed) }
 {
@@ -92,7 +92,7 @@ pub(crate) fn take_all<
     requires sees { (found : SearchedBlock) → S.searched found ≡ found }
     requires reader { D.ready reader.old from.old }
     ensures same { (take.new.tray ≡ tray.now) × (take.new.workers ≡ take.old.workers) }
-    ensures took { Takes result (S.stands collector.old) (HasReceived (S.stands collector.new) take.new.taken)
+    ensures took { TakesResults result (S.stands collector.old) (HasReceived (S.stands collector.new) take.new.taken)
         (W.stream out.old) (W.stream out.new) }
     ensures fault { IfErr result (λ fault. fault ≡ SinkFailed) }
     ensures read { HasGoneOn D.ready D.reaches reader.old from.old reader.new from.new }
@@ -124,7 +124,7 @@ pub(crate) fn deliver<R: Wait, A: Allocator, S: Collector<BlockResult<A>>, W: Si
     out: &mut W,
 ) -> Result<(), RoundFault>
     requires sees { (found : SearchedBlock) → S.searched found ≡ found }
-    ensures took { Takes result (S.stands collector.old) (HasDelivered (S.stands collector.new) delivered.lists
+    ensures took { TakesResults result (S.stands collector.old) (HasDelivered (S.stands collector.new) delivered.lists
         delivered.out) (W.stream out.old) (W.stream out.new) }
     ensures fault { IfErr result (λ fault. fault ≡ SinkFailed) }
 {

@@ -3,7 +3,7 @@ ghost use Rattle.std.specs.Prelude.{◌≡◌, ◌+◌, ◌<◌, ◌≤◌, [], 
 ghost use Rattle.pg_selection.specs.Searched.{SearchedBlock};
 ghost use Rattle.pg_workers.specs.Workers.{task_of, IsReady, HasFinished, AreBack};
 ghost use Rattle.pg_reader.specs.Going.{HasGoneOn};
-ghost use Rattle.pg_round.specs.Receipts.{HasReceived, HasRound, Takes};
+ghost use Rattle.pg_round.specs.Receipts.{HasReceived, HasRound, TakesResults};
 
 use crate::fault::RoundFault;
 use crate::receiving::deliver;
@@ -60,7 +60,7 @@ fn search_beside<
     requires reader { D.ready reader.old from.old }
     ensures back { IfOk result (λ back. AreBack (task_of Q.seen round.entry) workers.items back.items) }
     ensures same { (take.new.tray ≡ round.entry.tray.now) × (take.new.workers ≡ take.old.workers) }
-    ensures took { Takes result (S.stands collector.old) (HasReceived (S.stands collector.new) take.new.taken)
+    ensures took { TakesResults result (S.stands collector.old) (HasReceived (S.stands collector.new) take.new.taken)
         (W.stream out.old) (W.stream out.new) }
     ensures read { HasGoneOn D.ready D.reaches reader.old from.old reader.new from.new }
 {
@@ -123,8 +123,9 @@ pub fn search_round<
     requires sees { (found : SearchedBlock) → S.searched found ≡ found }
     requires may { All (Q.seen query.now).may blocks.now }
     requires reader { D.ready reader.old from.old }
-    ensures took { Takes result (S.stands collector.old) (HasRound (S.stands collector.new) (Q.seen query.now).finds
-        blocks.now) (W.stream out.old) (W.stream out.new) }
+    ensures took { TakesResults result (S.stands collector.old)
+        (HasRound (S.stands collector.new) (Q.seen query.now).finds blocks.now)
+        (W.stream out.old) (W.stream out.new) }
     ensures read { HasGoneOn D.ready D.reaches reader.old from.old reader.new from.new }
     ensures scratches { OnOk result ((vec_len scratches.new ≡ vec_len scratches.old)
         × All (Q.seen query.now).fits scratches.new.items) }

@@ -2,7 +2,7 @@
 ghost use Rattle.std.specs.Prelude.{◌≡◌, ◌<◌, [], All, vec_len, IfErr, IfSome, IsSome};
 ghost use Rattle.pg_selection.specs.Searched.{SearchedBlock};
 ghost use Rattle.pg_workers.specs.Workers.{task_of, IsReady, HasFinished, AreBack};
-ghost use Rattle.pg_round.specs.Receipts.{HasReceived, Takes};
+ghost use Rattle.pg_round.specs.Receipts.{HasReceived, TakesResults};
 ghost use Rattle.pg_round.specs.declared.fault.RoundFault.TheVariants.{Sink as SinkFailed};
 ghost use Rattle.pg_reader.specs.Going.{HasGoneOn};
 
@@ -49,7 +49,7 @@ pub(crate) fn stream<
     requires reader { D.ready reader.old from.old }
     ensures back { AreBack (task_of Q.seen round.now) workers.items result.0.items }
     ensures same { (take.new.tray ≡ tray.now) × (take.new.workers ≡ take.old.workers) }
-    ensures took { Takes result.1 (S.stands collector.old) (HasReceived (S.stands collector.new) take.new.taken)
+    ensures took { TakesResults result.1 (S.stands collector.old) (HasReceived (S.stands collector.new) take.new.taken)
         (W.stream out.old) (W.stream out.new) }
     ensures fault { IfErr result.1 (λ fault. fault ≡ SinkFailed) }
     ensures read { HasGoneOn D.ready D.reaches reader.old from.old reader.new from.new }
@@ -63,7 +63,7 @@ pub(crate) fn stream<
         requires reader { D.ready reader.now from.now }
         ensures same { (take.exit.now.tray ≡ tray.entry.now)
             × (take.exit.now.workers ≡ take.entry.now.workers) }
-        ensures took { Takes result (S.stands collector.entry.now) (HasReceived (S.stands collector.exit.now)
+        ensures took { TakesResults result (S.stands collector.entry.now) (HasReceived (S.stands collector.exit.now)
             take.exit.now.taken) (W.stream out.entry.now) (W.stream out.exit.now) }
         ensures fault { IfErr result (λ fault. fault ≡ SinkFailed) }
         ensures read { HasGoneOn D.ready D.reaches reader.entry.now from.entry.now reader.exit.now from.exit.now }

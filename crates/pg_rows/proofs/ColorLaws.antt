@@ -17,7 +17,7 @@ use Rattle.pg_rows.specs.Colors.{without_from, without_escapes}
 use Rattle.pg_rows.specs.Modes.{is_named, rows_in}
 use Rattle.pg_rows.specs.Output.{is_nothing, when, row, tab_before, gap_text, painted, shown_text, told_parts, line_at}
 use Rattle.pg_rows.specs.Output.{has_prefix, line_start, number_text}
-use Rattle.pg_rows.specs.Output.{separator, is_shown, is_kept, mark_of, members, line_rows, part_rows, count_row}
+use Rattle.pg_rows.specs.Output.{separator, is_shown, is_kept, mark_of, places_in, line_rows, part_rows, count_row}
 use Rattle.pg_rows.specs.Output.{name_row}
 use Rattle.pg_rows.specs.Output.{file_rows, name_text, name_end, name_mark, mark_text, has_separators, is_behind}
 use Rattle.pg_rows.specs.Separator.{text_between}
@@ -290,7 +290,7 @@ module _ (q : Search) (format : Format) where
       has_separators format && not (is_behind shown i) && (earlier || list_any shown (range_with_len 0 i)) in
       let given : Format → ℕ → List ℕ = λ f i. separator f end shown earlier i
       ++ row f end name (i + 1) (line_start ls i) (mark_of (kept i)) (shown_text q f (kept i) (line_at ls i)) in
-      strips_all (given on) (given off) (members shown ls) (λ i.
+      strips_all (given on) (given off) (places_in shown ls) (λ i.
       strips_append (separator on end shown earlier i)
       (row on end name (i + 1) (line_start ls i) (mark_of (kept i)) (shown_text q on (kept i) (line_at ls i)))
       (separator off end shown earlier i)
@@ -321,7 +321,7 @@ module _ (q : Search) (format : Format) where
   strips_pieces name ls h k =
       let given : Format → ℕ → List ℕ = λ f i. flat_map (λ p. row f end name (i + 1) (line_start ls i + p.0) 58
       (in_color f.colored part_color (slice_range (line_at ls i) p.0 p.1))) (told_parts q (line_at ls i)) in
-      strips_all (given on) (given off) (members (is_kept q format.limit ls) ls) (λ i.
+      strips_all (given on) (given off) (places_in (is_kept q format.limit ls) ls) (λ i.
       strips_parts name (i + 1) (line_start ls i) (line_at ls i) 0 (told_parts q (line_at ls i)) h (clean_line ls i k)
       (told_ascend q (line_at ls i)))
 
@@ -330,10 +330,10 @@ module _ (q : Search) (format : Format) where
   strips_count name ls h =
       let a = when format.names (name_text on name ++ name_end on 58) in
       let a' = when format.names (name ++ name_end off 58) in
-      let count = decimal (length (members (is_kept q format.limit ls) ls)) in
+      let count = decimal (length (places_in (is_kept q format.limit ls) ls)) in
       strips_append (a ++ count) (10 ∷ []) (a' ++ count) (10 ∷ [])
       (strips_append a count a' count (strips_named name 58 h (λ (e : 58 ≡ 27). omega (arith, e)))
-      (strips_clean count (clean_decimal (length (members (is_kept q format.limit ls) ls)))))
+      (strips_clean count (clean_decimal (length (places_in (is_kept q format.limit ls) ls)))))
       (strips_clean (10 ∷ []) (newline_clean, tt))
 
   strips_listed : (name : List ℕ) (ls : List (List ℕ)) → IsClean name

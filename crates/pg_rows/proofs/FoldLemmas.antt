@@ -11,10 +11,10 @@ use Rattle.pg_selection.specs.Selection.{selects}
 use Rattle.pg_rows.specs.declared.format.Format.{Format}
 use Rattle.pg_rows.specs.Modes.{is_named}
 use Rattle.pg_rows.specs.Output.{name_end, name_mark, name_text, is_below, when, row, is_nothing, painted, line_rows}
-use Rattle.pg_rows.specs.Output.{part_rows, count_row, name_row, size_of}
+use Rattle.pg_rows.specs.Output.{part_rows, count_row, name_row, bytes_in}
 use Rattle.pg_base.specs.Sink.{IsBeginning}
 use Rattle.pg_rows.specs.Stretch.{prefix_text}
-use Rattle.pg_rows.specs.Trail.{Trail, no_lines, step, trail_of, added, run_rows, run, added_pieces, run_pieces}
+use Rattle.pg_rows.specs.Trail.{Trail, no_lines, step, trail_of, added_by_line, run_rows, run, added_pieces, run_pieces}
 use Rattle.pg_rows.specs.Trail.{keeps, after_kept, after_context, after_other, kept_rows, context_rows, gap_row}
 use Rattle.pg_rows.proofs.TrailLemmas.{IsTrail, Quota, trail_step, rows_step, pieces_step, no_trail}
 
@@ -36,7 +36,7 @@ pub rows_more : (q : Search) (format : Format) (name : List ℕ) (earlier : Bool
 rows_more q format name earlier ls [] t h = ap (λ xs. line_rows q format name xs earlier) (append-nil ls)
     ∙ sym (append-nil (line_rows q format name ls earlier))
 rows_more q format name earlier ls (m ∷ ms) t h =
-    let one = added format (terminator q) name earlier t (selects q m) (painted q format m) m in
+    let one = added_by_line format (terminator q) name earlier t (selects q m) (painted q format m) m in
     let rest = run_rows q format name earlier (step format t (selects q m) m) ms in
     ap (λ xs. line_rows q format name xs earlier) (sym (append_assoc ls (m ∷ []) ms))
     ∙ (rows_more q format name earlier (ls ++ m ∷ []) ms (step format t (selects q m) m) (trail_step q format ls m t h)
@@ -120,7 +120,7 @@ or_turn false r s = refl
 step_some : (q : Search) (format : Format) (name : List ℕ) (earlier : Bool) (ls : List (List ℕ)) (m : List ℕ)
     (t : Trail) → IsTrail q format ls t →
     (step format t (selects q m) m).some ≡
-    (something (added format (terminator q) name earlier t (selects q m) (painted q format m) m) || t.some)
+    (something (added_by_line format (terminator q) name earlier t (selects q m) (painted q format m) m) || t.some)
 step_some q format name earlier ls m t h = go (keeps format t (selects q m)) (nat_lt 0 t.countdown) refl
   where
     go : (a b : Bool) → nat_lt 0 t.countdown ≡ b
@@ -130,7 +130,7 @@ step_some q format name earlier ls m t h = go (keeps format t (selects q m)) (na
     go true b e =
         let end = terminator q in
         let own = row format end name (t.number + 1) t.offset 58 (painted q format m) in
-        let front = context_rows format end name ((t.number + 1) - length t.window) (t.offset - size_of t.window)
+        let front = context_rows format end name ((t.number + 1) - length t.window) (t.offset - bytes_in t.window)
         t.window in
         let inner : something (front ++ own) ≡ true = some_append front own
         ∙ or_right (something front) (something own) (some_row format end name (t.number + 1) t.offset 58
@@ -147,7 +147,7 @@ pub run_some : (q : Search) (format : Format) (name : List ℕ) (earlier : Bool)
     → IsTrail q format ls t → (run q format t ms).some ≡ (something (run_rows q format name earlier t ms) || t.some)
 run_some q format name earlier ls [] t h = refl
 run_some q format name earlier ls (m ∷ ms) t h =
-    let one = added format (terminator q) name earlier t (selects q m) (painted q format m) m in
+    let one = added_by_line format (terminator q) name earlier t (selects q m) (painted q format m) m in
     let next = step format t (selects q m) m in
     let rest = run_rows q format name earlier next ms in
     run_some q format name earlier (ls ++ m ∷ []) ms next (trail_step q format ls m t h)
@@ -160,7 +160,7 @@ pub rows_append : (q : Search) (format : Format) (name : List ℕ) (earlier : Bo
     earlier (run q format t ls) ms
 rows_append q format name earlier t [] ms = refl
 rows_append q format name earlier t (l ∷ ls) ms =
-    let one = added format (terminator q) name earlier t (selects q l) (painted q format l) l in
+    let one = added_by_line format (terminator q) name earlier t (selects q l) (painted q format l) l in
     let next = step format t (selects q l) l in
     ap (λ xs. one ++ xs) (rows_append q format name earlier next ls ms)
     ∙ sym (append_assoc one (run_rows q format name earlier next ls)

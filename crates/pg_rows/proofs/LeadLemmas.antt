@@ -7,7 +7,7 @@ use Rattle.std.proofs.lemmas.Bool.{cases_lt, cases_Bool}
 use Rattle.std.proofs.Math.Seq.{drop-append-add}
 use Rattle.pg_rows.specs.declared.format.Format.{Format}
 use Rattle.pg_rows.specs.declared.progress.Progress.{Progress}
-use Rattle.pg_rows.specs.Output.{size_of}
+use Rattle.pg_rows.specs.Output.{bytes_in}
 use Rattle.pg_rows.specs.Stretch.{marked_rows, plain}
 use Rattle.pg_rows.specs.Printing.{leading, rows_of_leading}
 use Rattle.pg_rows.proofs.StretchLemmas.{length_keep_last}
@@ -41,9 +41,9 @@ last_of_both n xs ys fits =
 pub leading_rows : (format : Format) (end : ℕ) (name : List ℕ) (p : Progress) (xs ys : List (List ℕ))
     (n close offset start : ℕ)
     → n ≡ leading format p → close ≡ min n (length ys) → n ≤ length xs + length ys → n ≤ p.number
-    → start ≡ offset - size_of (keep_last close ys) → size_of (keep_last (leading format p) (xs ++ ys)) ≤ offset
+    → start ≡ offset - bytes_in (keep_last close ys) → bytes_in (keep_last (leading format p) (xs ++ ys)) ≤ offset
     → rows_of_leading format end name (xs ++ ys) p offset
-    ≡ marked_rows format end name 45 plain ((p.number + 1) - n) (start - size_of (keep_last (n - close) xs))
+    ≡ marked_rows format end name 45 plain ((p.number + 1) - n) (start - bytes_in (keep_last (n - close) xs))
     (keep_last (n - close) xs)
     ++ marked_rows format end name 45 plain ((p.number + 1) - close) start (keep_last close ys)
 leading_rows format end name p xs ys n close offset start is close_is fits few start_is low =
@@ -57,27 +57,27 @@ leading_rows format end name p xs ys n close offset start is close_is fits few s
     last_of_both n xs ys fits ∙ ap (λ k. keep_last (n - k) xs ++ keep_last k ys) (sym close_is) in
     let whole : keep_last (leading format p) (xs ++ ys) ≡ far ++ near =
     ap (λ k. keep_last k (xs ++ ys)) (sym is) ∙ apart in
-    let size = ap size_of whole ∙ size_append far near in
-    let from : offset - size_of (keep_last (leading format p) (xs ++ ys)) ≡ start - size_of far =
+    let size = ap bytes_in whole ∙ size_append far near in
+    let from : offset - bytes_in (keep_last (leading format p) (xs ++ ys)) ≡ start - bytes_in far =
     omega (arith, size, start_is) in
-    let next : (start - size_of far) + size_of far ≡ start = omega (arith, size, start_is, low) in
-    ap (λ k. rows ((p.number + 1) - k) (offset - size_of (keep_last (leading format p) (xs ++ ys)))
+    let next : (start - bytes_in far) + bytes_in far ≡ start = omega (arith, size, start_is, low) in
+    ap (λ k. rows ((p.number + 1) - k) (offset - bytes_in (keep_last (leading format p) (xs ++ ys)))
     (keep_last (leading format p) (xs ++ ys))) (sym is)
     ∙ (ap (λ k. rows first k (keep_last (leading format p) (xs ++ ys))) from
-    ∙ (ap (rows first (start - size_of far)) whole
-    ∙ (marked_append format end name 45 plain first (start - size_of far) far near
-    ∙ (ap (λ k. rows first (start - size_of far) far ++ rows k ((start - size_of far) + size_of far) near) number
-    ∙ ap (λ k. rows first (start - size_of far) far ++ rows ((p.number + 1) - close) k near) next))))
+    ∙ (ap (rows first (start - bytes_in far)) whole
+    ∙ (marked_append format end name 45 plain first (start - bytes_in far) far near
+    ∙ (ap (λ k. rows first (start - bytes_in far) far ++ rows k ((start - bytes_in far) + bytes_in far) near) number
+    ∙ ap (λ k. rows first (start - bytes_in far) far ++ rows ((p.number + 1) - close) k near) next))))
 
 -- the rows of lines that were held begin where these begin, which only offsets ask for
 pub held_start : (format : Format) (end : ℕ) (name : List ℕ) (number start at : ℕ) (ls : List (List ℕ))
-    → at ≡ cond format.offsets (start - size_of ls) 0
+    → at ≡ cond format.offsets (start - bytes_in ls) 0
     → marked_rows format end name 45 plain number at ls
-    ≡ marked_rows format end name 45 plain number (start - size_of ls) ls
+    ≡ marked_rows format end name 45 plain number (start - bytes_in ls) ls
 held_start format end name number start at ls is = elim (cases_Bool format.offsets) [
   | inl on ↦ ap (λ k. marked_rows format end name 45 plain number k ls)
-      (is ∙ ap (λ b. cond b (start - size_of ls) 0) on)
-  | inr off ↦ marked_anywhere format end name 45 plain number at (start - size_of ls) ls off
+      (is ∙ ap (λ b. cond b (start - bytes_in ls) 0) on)
+  | inr off ↦ marked_anywhere format end name 45 plain number at (start - bytes_in ls) ls off
 ]
 
 -- where no line is shown before the kept one
@@ -85,5 +85,5 @@ pub no_leading : (format : Format) (end : ℕ) (name : List ℕ) (p : Progress) 
     → n ≡ leading format p → n ≡ 0 → rows_of_leading format end name hidden p offset ≡ []
 no_leading format end name p hidden n offset is none =
     ap (marked_rows format end name 45 plain ((p.number + 1) - leading format p)
-    (offset - size_of (keep_last (leading format p) hidden)))
+    (offset - bytes_in (keep_last (leading format p) hidden)))
     (ap (λ k. keep_last k hidden) (sym is ∙ none) ∙ keep_none hidden)

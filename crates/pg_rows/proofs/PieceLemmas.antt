@@ -13,7 +13,7 @@ use Rattle.std.proofs.Math.Seq.{drop-append_seam}
 use Rattle.pg_pattern.specs.Parts.{AreParts, none, more}
 use Rattle.pg_pattern.proofs.PartLaws.{parts_are_parts}
 use Rattle.pg_selection.specs.Search.{Search, terminator, bounds_of}
-use Rattle.pg_selection.specs.Selection.{selects, parts}
+use Rattle.pg_selection.specs.Selection.{selects, parts_of_line}
 use Rattle.pg_blocks.specs.Lines.{lines, terminated}
 use Rattle.pg_selection.specs.BlockParts.{part_at, parts_of_lines}
 use Rattle.pg_selection.specs.Runs.{AreRuns}
@@ -25,7 +25,7 @@ use Rattle.pg_rows.specs.Colors.{in_color, part_color}
 use Rattle.pg_rows.specs.Output.{is_below, row, told_parts, when}
 use Rattle.pg_rows.specs.Trail.{Trail, keeps, after_kept, after_context, after_other, with_offset, step, run_pieces}
 use Rattle.pg_rows.specs.Trail.{pieces_in}
-use Rattle.pg_rows.specs.Stretch.{part_row, part_rows, IsPartOf, no_part, AllSelected}
+use Rattle.pg_rows.specs.Stretch.{part_row, rows_of_parts, IsPartOf, no_part, AllSelected}
 use Rattle.pg_rows.specs.Pieces.{cut_at, told_of_lines}
 use Rattle.pg_rows.proofs.StretchLemmas.{passed_pieces, full_unkept, step_kept, step_unkept}
 use Rattle.pg_rows.proofs.BlockLemmas.{AreStretches, stretches}
@@ -56,8 +56,8 @@ told_ascend q l = told q.text.with_parts
     go _ _ fits (more {place} {i} {j} {rest} n later) =
         (n.later, n.some, n.hit.within, go j rest n.hit.within later)
 
-    told : (pieces : Bool) → Ascend l 0 (cond pieces (parts q l) [])
-    told true = go 0 (parts q l) (omega arith) (parts_are_parts q.trees (bounds_of q.text) l)
+    told : (pieces : Bool) → Ascend l 0 (cond pieces (parts_of_line q l) [])
+    told true = go 0 (parts_of_line q l) (omega arith) (parts_are_parts q.trees (bounds_of q.text) l)
     told false = omega arith
 
 parts_within : (q : Search) (l : List ℕ) → AllByRecursion (IsIn l) (told_parts q l)
@@ -207,11 +207,11 @@ found_told q at seen (l ∷ ls) =
     go : (pieces s : Bool)
         → cond pieces (parts_of_lines q (at + (length l + 1)) (seen + 1) ls) []
         ≡ told_of_lines q (at + (length l + 1)) (seen + 1) ls
-        → cond pieces (cond s (map (part_at at seen) (parts q l)) []
+        → cond pieces (cond s (map (part_at at seen) (parts_of_line q l)) []
         ++ parts_of_lines q (at + (length l + 1)) (seen + 1) ls) []
-        ≡ cond s (map (part_at at seen) (cond pieces (parts q l) [])) []
+        ≡ cond s (map (part_at at seen) (cond pieces (parts_of_line q l) [])) []
         ++ told_of_lines q (at + (length l + 1)) (seen + 1) ls
-    go true s ih = ap (λ xs. cond s (map (part_at at seen) (parts q l)) [] ++ xs) ih
+    go true s ih = ap (λ xs. cond s (map (part_at at seen) (parts_of_line q l)) [] ++ xs) ih
     go false true ih = ih
     go false false ih = ih
 
@@ -238,7 +238,7 @@ rows_apart rows test xs ys =
 -- where the rows of the lines behind are known
 abbrev RowsAre : Search → Format → List ℕ → (first start : ℕ) → List ℕ → Trail → ℕ → ℕ → List (List ℕ) → Type 0
 RowsAre q format name first start bytes t at seen ls =
-    run_pieces q format name t ls ≡ part_rows format (terminator q) name first start
+    run_pieces q format name t ls ≡ rows_of_parts format (terminator q) name first start
     (seen + cut_at q format.limit t.kept ls) bytes (told_of_lines q at seen ls)
 
 line_unselected : (q : Search) (format : Format) (name : List ℕ) (first start : ℕ) (bytes : List ℕ) (t : Trail)
@@ -252,7 +252,7 @@ line_unselected q format name first start bytes t at seen l ls off ih =
     let next = step format t s l in
     let later = told_of_lines q (at + (length l + 1)) (seen + 1) ls in
     let own = map (part_at at seen) (told_parts q l) in
-    let shown = λ (cut : ℕ) (ps : List Part). part_rows format (terminator q) name first start cut bytes ps in
+    let shown = λ (cut : ℕ) (ps : List Part). rows_of_parts format (terminator q) name first start cut bytes ps in
     let unkept : keeps format t s ≡ false = and_left s b off in
     let kept_cut = ap (λ k. cut_at q format.limit k ls) (step_unkept format t s l unkept) in
     let cut : cut_at q format.limit t.kept (l ∷ ls) ≡ cut_at q format.limit t.kept ls + 1 =
@@ -276,7 +276,7 @@ line_kept q format name first start bytes t at seen l ls on below is text ih =
     let later = told_of_lines q (at + (length l + 1)) (seen + 1) ls in
     let own = map (part_at at seen) (told_parts q l) in
     let rows = part_row format (terminator q) name first start bytes in
-    let shown = λ (cut : ℕ) (ps : List Part). part_rows format (terminator q) name first start cut bytes ps in
+    let shown = λ (cut : ℕ) (ps : List Part). rows_of_parts format (terminator q) name first start cut bytes ps in
     let kept : keeps format t s ≡ true = and_from s b on below in
     let kept_cut = ap (λ (u : Trail). cut_at q format.limit u.kept ls) (step_kept format t s l kept) in
     let cut : cut_at q format.limit t.kept (l ∷ ls) ≡ cut_at q format.limit (t.kept + 1) ls + 1 =
@@ -330,7 +330,7 @@ pieces_rows q format name first start bytes t at seen (l ∷ ls) is texts =
     ]
 
 pub block_pieces : (q : Search) (format : Format) (name : List ℕ) (t : Trail) (bytes : List ℕ) →
-    run_pieces q format name t (lines (terminator q) bytes) ≡ part_rows format (terminator q) name (t.number + 1)
+    run_pieces q format name t (lines (terminator q) bytes) ≡ rows_of_parts format (terminator q) name (t.number + 1)
     t.offset
     (cut_at q format.limit t.kept (lines (terminator q) bytes)) bytes
     (told_of_lines q 0 0 (lines (terminator q) bytes))
@@ -339,7 +339,7 @@ block_pieces q format name t bytes =
     let start : 0 + cut_at q format.limit t.kept ls ≡ cut_at q format.limit t.kept ls = omega arith in
     pieces_rows q format name (t.number + 1) t.offset bytes t 0 0 ls (omega arith, omega arith)
     (lines_at (terminator q) bytes)
-    ∙ ap (λ n. part_rows format (terminator q) name (t.number + 1) t.offset n bytes (told_of_lines q 0 0 ls)) start
+    ∙ ap (λ n. rows_of_parts format (terminator q) name (t.number + 1) t.offset n bytes (told_of_lines q 0 0 ls)) start
 
 -- The parts stand in the bytes.
 

@@ -12,7 +12,7 @@ use Rattle.pg_blocks.specs.Lines.{lines, AreWhole}
 use Rattle.pg_selection.proofs.RunLemmas.{lines_behind}
 use Rattle.pg_rows.specs.declared.format.Format.{Format}
 use Rattle.pg_rows.specs.declared.progress.Progress.{Progress}
-use Rattle.pg_rows.specs.Output.{context, gap_text, has_separators, painted, size_of, when, is_below}
+use Rattle.pg_rows.specs.Output.{context, gap_text, has_separators, painted, bytes_in, when, is_below}
 use Rattle.pg_rows.specs.Trail.{Trail, run, run_rows, gap_row, context_rows}
 use Rattle.pg_rows.specs.Cursor.{Cursor}
 use Rattle.pg_rows.specs.Progress.{IsOfTrail, Passes, KeepsLines}
@@ -87,16 +87,16 @@ kept_part q format name earlier hidden p t l ls told window selected below =
     let end = terminator q in
     let own : List ℕ = marked_rows format end name 58 (painted q format) (t.number + 1) t.offset (l ∷ ls) in
     let lead : ℕ → List (List ℕ) → List ℕ =
-    λ n ws. marked_rows format end name 45 plain n (t.offset - size_of ws) ws in
+    λ n ws. marked_rows format end name 45 plain n (t.offset - bytes_in ws) ws in
     let number : (t.number + 1) - length t.window ≡ (p.number + 1) - leading format p =
     let a = told.number in let b = told.window in omega arith in
     kept_lines_rows q format name earlier t l ls selected below
-    ∙ (ap (λ g. g ++ (context_rows format end name ((t.number + 1) - length t.window) (t.offset - size_of t.window)
+    ∙ (ap (λ g. g ++ (context_rows format end name ((t.number + 1) - length t.window) (t.offset - bytes_in t.window)
     t.window ++ own))
     (gap_is format end earlier p t told)
     ∙ ap (λ xs. gap_of format end earlier p ++ xs)
     (ap (λ xs. xs ++ own) (context_is_marked format end name ((t.number + 1) - length t.window)
-    (t.offset - size_of t.window) t.window
+    (t.offset - bytes_in t.window) t.window
     ∙ (ap (λ n. lead n t.window) number ∙ ap (lead ((p.number + 1) - leading format p)) window))
     ∙ ap (λ n. lead ((p.number + 1) - leading format p) (keep_last (leading format p) hidden)
     ++ marked_rows format end name 58 (painted q format) (n + 1) t.offset (l ∷ ls)) (sym told.number)))
@@ -296,7 +296,7 @@ kept_step q format c hidden hidden' bytes before after p later at seen h front r
 pub at_first : (q : Search) (format : Format) (c : Cursor) (hidden : List (List ℕ)) (bytes taken : List ℕ)
     (p : Progress)
     → IsOfTrail p format c.trail → c.trail.window ≡ keep_last (context format.before) hidden
-    → size_of c.trail.window ≤ c.trail.offset → IsAt q format c hidden bytes taken taken p 0 0
+    → bytes_in c.trail.window ≤ c.trail.offset → IsAt q format c hidden bytes taken taken p 0 0
 at_first q format c hidden bytes taken p told window room =
     let a = ap (λ xs. length xs) window in
     let b = length_keep_last (context format.before) hidden in

@@ -21,20 +21,20 @@ use Rattle.pg_rows.specs.declared.progress.Progress.{Progress}
 use Rattle.pg_rows.specs.declared.printer.Printer.{Printer}
 use Rattle.pg_rows.specs.declared.printer.Place.{Place}
 use Rattle.pg_rows.specs.declared.window.Window.{Window}
-use Rattle.pg_rows.specs.Output.{context, is_below, painted, size_of}
+use Rattle.pg_rows.specs.Output.{context, is_below, painted, bytes_in}
 use Rattle.pg_rows.specs.Trail.{run_rows, run_pieces}
-use Rattle.pg_rows.specs.Stretch.{part_rows, AllSelected}
+use Rattle.pg_rows.specs.Stretch.{rows_of_parts, AllSelected}
 use Rattle.pg_rows.specs.Pieces.{cut_at, told_of_lines}
 use Rattle.pg_rows.proofs.PieceLemmas.{HasFound}
 use Rattle.pg_rows.specs.Painting.{count_before}
 use Rattle.pg_rows.specs.Cursor.{Cursor}
-use Rattle.pg_rows.specs.Window.{held, IsWindow}
+use Rattle.pg_rows.specs.Window.{lines_held, IsWindow}
 use Rattle.pg_rows.specs.Progress.{Passes, KeepsLines, kept_of}
 use Rattle.pg_rows.specs.Printing.{leading, rows_of_passed, rows_of_run, IsAt, ComesNext, EndsKept}
 use Rattle.pg_rows.specs.Remembered.{IsAtCursor, HasLines, ComesLast, IsRememberedBehind, shows_lines, behind_block}
 use Rattle.pg_rows.specs.Modes.{shows_rows}
 use Rattle.pg_rows.specs.Remembered.{shown_rows, shows_parts}
-use Rattle.pg_rows.specs.Steps.{gap_lines, shown_passed, shown_step, HasLeading, MayStep, StepsOver, TakesParts}
+use Rattle.pg_rows.specs.Steps.{gap_lines, shown_passed, shown_step, HasLeading, MayPrintRun, StepsOver, TakesParts}
 use Rattle.pg_rows.specs.declared.printer.Step.{Step}
 use Rattle.pg_base.specs.Sink.{Stream}
 use Rattle.pg_rows.proofs.StretchLemmas.{length_keep_last}
@@ -50,7 +50,8 @@ use Rattle.pg_rows.proofs.PaintLemmas.{AreLeft, run_own}
 pub record IsAmong {A : Type 0} (s : Printer A) (q : Search) (format : Format) (c : Cursor)
     (bytes before after : List ℕ) (parts : List Part) (place : Place) (runs : List Run) : Type 0 where
   pub stands : IsAtCursor s q format c
-  pub here : IsBefore q format c (held (terminator q) s.window) bytes before after place.progress place.at place.seen
+  pub here : IsBefore q format c (lines_held (terminator q) s.window) bytes before after place.progress place.at
+      place.seen
       runs
   pub left : s.format.colored ≡ true → AreLeft q bytes parts place.used place.at place.seen
 
@@ -62,7 +63,7 @@ pub before_all : {A : Type 0} (s : Printer A) (q : Search) (format : Format) (c 
 before_all s q format c bytes taken runs parts total shows r found = record {
   stands = r;
   here = record {
-    here = at_first q format c (held (terminator q) s.window) bytes taken s.progress r.told
+    here = at_first q format c (lines_held (terminator q) s.window) bytes taken s.progress r.told
         (r.window (ap shows_lines (sym r.format_is) ∙ shows)) r.room;
     ahead = inl found.found_lines.each;
   };
@@ -75,7 +76,7 @@ pub record IsAtRun {A : Type 0} (s : Printer A) (q : Search) (format : Format) (
     Type 0
   where
     pub stands : IsAtCursor s q format c
-    pub at : IsAt q format c (held (terminator q) s.window) bytes before after place.progress place.at place.seen
+    pub at : IsAt q format c (lines_held (terminator q) s.window) bytes before after place.progress place.at place.seen
     pub are : AreRuns q place.at place.seen (drop place.at bytes) (here ∷ more)
     pub is : count ≡ kept_of format.limit place.progress.kept here.count
     pub some : 0 < count
@@ -89,7 +90,7 @@ pub at_run : {A : Type 0} {s : Printer A} {q : Search} {format : Format} {c : Cu
 at_run {s = s} {q = q} {format = format} {c = c} {bytes = bytes} {before = before} {after = after} {place = place} runs
     index count m below is some =
     let here = get_or runs index no_run in
-    let P : List Run → Type 0 = λ rs. IsBefore q format c (held (terminator q) s.window) bytes before after
+    let P : List Run → Type 0 = λ rs. IsBefore q format c (lines_held (terminator q) s.window) bytes before after
     place.progress place.at place.seen rs in
     let h = subst P (drop_more runs index no_run below) m.here in
     let is' = is ∙ ap (λ f. kept_of f.limit place.progress.kept here.count) m.stands.format_is in
@@ -110,7 +111,7 @@ pub may_step : {A : Type 0} {s : Printer A} {q : Search} {format : Format} {c : 
     {parts : List Part} {place : Place} {here : Run} {more : List Run} {count : ℕ} (runs : List Run) (total : ℕ)
     → IsAtRun s q format c bytes before after parts place here more count → HasLines q bytes runs total
     → place.progress.number ≡ s.progress.number + place.seen → place.used ≤ length parts
-    → s.progress.number + total < 2 ^ 63 → s.offset + length bytes < 2 ^ 63 → MayStep s bytes parts place here count
+    → s.progress.number + total < 2 ^ 63 → s.offset + length bytes < 2 ^ 63 → MayPrintRun s bytes parts place here count
 may_step {s = s} {q = q} {format = format} {bytes = bytes} {place = place} {here = here} {more = more} {count = count}
     runs total n has number used small placed =
     let d = (stretches q place.at place.seen (drop place.at bytes) (here ∷ more) n.are).0 in
@@ -141,18 +142,19 @@ has_leading {s = s} {q = q} {format = format} {c = c} {bytes = bytes} {before = 
     let r = n.stands in
     let d = n.are.0 in
     let texts = next_texts q place.at place.seen bytes here d n.at.within in
-    let k = gap_step q format c (held (terminator q) s.window) bytes before after place.progress passed place.at
+    let k = gap_step q format c (lines_held (terminator q) s.window) bytes before after place.progress passed place.at
     place.seen here n.at d texts passes in
     let near : ℕ → List (List ℕ) = λ e.
     drop place.progress.countdown (lines e (slice_range bytes place.at here.span.start)) in
-    let shown : Format → ℕ → List (List ℕ) = λ f e. keep_last (leading f passed) (held e s.window ++ near e) in
-    let same : size_of (shown s.format s.end) ≡ size_of k.trail.window =
-    ap (λ f. size_of (shown f s.end)) r.format_is
-    ∙ (ap (λ e. size_of (shown format e)) r.end_is ∙ sym (ap size_of k.window)) in
-    let fits = enough_hidden q format c (held (terminator q) s.window ++ near (terminator q)) bytes before _ passed
+    let shown : Format → ℕ → List (List ℕ) = λ f e. keep_last (leading f passed) (lines_held e s.window ++ near e) in
+    let same : bytes_in (shown s.format s.end) ≡ bytes_in k.trail.window =
+    ap (λ f. bytes_in (shown f s.end)) r.format_is
+    ∙ (ap (λ e. bytes_in (shown format e)) r.end_is ∙ sym (ap bytes_in k.window)) in
+    let fits = enough_hidden q format c
+    (lines_held (terminator q) s.window ++ near (terminator q)) bytes before _ passed
     here.span.start here.first k in
-    let both = length-append (held (terminator q) s.window) (near (terminator q)) in
-    let E : Format → ℕ → Type 0 = λ f e. leading f passed ≤ length (held e s.window) + length (near e) in
+    let both = length-append (lines_held (terminator q) s.window) (near (terminator q)) in
+    let E : Format → ℕ → Type 0 = λ f e. leading f passed ≤ length (lines_held e s.window) + length (near e) in
     let F : ℕ → Type 0 = λ e. E format e in
     let G : Format → Type 0 = λ f. E f s.end in
     let W : ℕ → Type 0 = λ e. IsWindow e s.window in
@@ -237,7 +239,7 @@ parts_lead {s = s} {q = q} {format = format} {bytes = bytes} {parts = parts} {pl
 abbrev step_rows : {A : Type 0} → Search → Format → ℕ → List ℕ → Bool → Window A → (offset : ℕ) → List ℕ → Place → Run
     → Step → List ℕ
 step_rows q format end name earlier window offset bytes place here next =
-    rows_of_run format end name earlier (held end window) place.progress next.passed (offset + place.at)
+    rows_of_run format end name earlier (lines_held end window) place.progress next.passed (offset + place.at)
     (lines end (slice_range bytes place.at here.span.start)) (offset + here.span.start) (painted q format)
     (lines end (slice_range bytes here.span.start next.place.at))
 
@@ -285,7 +287,7 @@ leads_on {s = s} {q = q} {format = format} {c = c} {bytes = bytes} {before = bef
     {here = here} {more = more} {count = count} next n steps fits =
     let r = n.stands in
     let to = next.place in
-    let hidden = held (terminator q) s.window in
+    let hidden = lines_held (terminator q) s.window in
     let K : Format → Type 0 = λ f. KeepsLines next.passed f count to.progress in
     let E : ℕ → Type 0 = λ e. EndsKept e bytes here count to.at in
     let rows = step_rows q format (terminator q) c.name c.earlier s.window c.trail.offset bytes place here next in
@@ -324,7 +326,7 @@ stops {s = s} {q = q} {format = format} {c = c} {bytes = bytes} {before = before
     index count m below is none =
     let here = get_or runs index no_run in
     let more = drop (index + 1) runs in
-    let P : List Run → Type 0 = λ rs. IsBefore q format c (held (terminator q) s.window) bytes before after
+    let P : List Run → Type 0 = λ rs. IsBefore q format c (lines_held (terminator q) s.window) bytes before after
     place.progress place.at place.seen rs in
     let h = subst P (drop_more runs index no_run below) m.here in
     let is' = is ∙ ap (λ f. kept_of f.limit place.progress.kept here.count) m.stands.format_is in
@@ -342,12 +344,14 @@ pub comes_last : {A : Type 0} {s : Printer A} {q : Search} {format : Format} {c 
     → (runs ≡ []) ⊎ (is_below place.progress.kept format.limit ≡ false) → after.failures ≡ before.failures
     → place.progress.number ≡ s.progress.number + place.seen → (place.at ≡ 0 → place.progress ≡ s.progress)
     → (0 < place.at → place.progress.behind ≡ 0)
-    → ComesLast q format c (held (terminator q) t.window) block before after t.progress place
+    → ComesLast q format c (lines_held (terminator q) t.window) block before after t.progress place
 comes_last {s = s} {q = q} {format = format} {c = c} {bytes = bytes} {place = place} t block before after same
     same_bytes m none no_failure number fresh kept =
-    let P : Printer _ → Type 0 = λ p. ComesLast q format c (held (terminator q) p.window) bytes before after p.progress
+    let P : Printer _ → Type 0 =
+    λ p. ComesLast q format c (lines_held (terminator q) p.window) bytes before after p.progress
     place in
-    let Q : List ℕ → Type 0 = λ bs. ComesLast q format c (held (terminator q) t.window) bs before after t.progress place
+    let Q : List ℕ → Type 0 =
+    λ bs. ComesLast q format c (lines_held (terminator q) t.window) bs before after t.progress place
     in
     subst Q same_bytes (subst P same (record {
       here = m.here.here;
@@ -368,10 +372,11 @@ comes_last {s = s} {q = q} {format = format} {c = c} {bytes = bytes} {place = pl
 -- the lines behind the last one that is kept were passed
 pub behind_last : {A : Type 0} (s : Printer A) (q : Search) (format : Format) (c : Cursor) (bytes : List ℕ)
     (before after : Stream) (place : Place) (last : Progress) (count : ℕ) → IsAtCursor s q format c
-    → ComesLast q format c (held (terminator q) s.window) bytes before after s.progress place
+    → ComesLast q format c (lines_held (terminator q) s.window) bytes before after s.progress place
     → Passes place.progress count last → count ≡ length (lines s.end (drop place.at bytes)) →
     IsAt q format c
-    (held (terminator q) s.window ++ drop place.progress.countdown (lines (terminator q) (drop place.at bytes))) bytes
+    (lines_held (terminator q) s.window ++ drop place.progress.countdown (lines (terminator q) (drop place.at bytes)))
+    bytes
     before.taken (after.taken ++ shown_passed s place.progress (s.offset + place.at)
     (lines s.end (drop place.at bytes))) last (length bytes)
     (place.seen + length (lines (terminator q) (drop place.at bytes)))
@@ -380,7 +385,7 @@ behind_last s q format c bytes before after place last count r h passes is =
     let front = drop place.at bytes in
     let ls = lines end front in
     let P : ℕ → Type 0 = λ k. Passes place.progress k last in
-    let hidden = held end s.window in
+    let hidden = lines_held end s.window in
     let k = passed_step q format c hidden bytes before.taken after.taken place.progress last place.at place.seen h.here
     front []
     (sym (append-nil front)) (inr refl) h.rest
@@ -421,20 +426,20 @@ kept_window ctx behind hidden others is =
 -- where a block ends
 pub offset_follows : {A : Type 0} (s : Printer A) (q : Search) (format : Format) (c : Cursor) (bytes : List ℕ)
     → IsAtCursor s q format c
-    → s.offset + size_of (lines s.end bytes) ≡ (behind_block q format c bytes).trail.offset
+    → s.offset + bytes_in (lines s.end bytes) ≡ (behind_block q format c bytes).trail.offset
 offset_follows s q format c bytes r =
-    ap (λ e. s.offset + size_of (lines e bytes)) r.end_is
-    ∙ (ap (λ o. o + size_of (lines (terminator q) bytes)) r.offset
+    ap (λ e. s.offset + bytes_in (lines e bytes)) r.end_is
+    ∙ (ap (λ o. o + bytes_in (lines (terminator q) bytes)) r.offset
     ∙ sym (run_offset q format c.trail (lines (terminator q) bytes)))
 
 pub follows : {A : Type 0} (s : Printer A) (q : Search) (format : Format) (c : Cursor) (bytes : List ℕ)
     (before after : Stream) (place : Place) (last : Progress) (count stop left offset : ℕ) → IsAtCursor s q format c
     → shows_lines format ≡ true
-    → ComesLast q format c (held (terminator q) s.window) bytes before after s.progress place
+    → ComesLast q format c (lines_held (terminator q) s.window) bytes before after s.progress place
     → Passes place.progress count last → count ≡ length (lines s.end (drop place.at bytes))
     → lines s.end (drop stop (drop place.at bytes)) ≡ drop place.progress.countdown (lines s.end (drop place.at bytes))
     → stop ≤ length (drop place.at bytes) → left ≡ count - place.progress.countdown
-    → offset ≡ s.offset + size_of (lines s.end bytes) →
+    → offset ≡ s.offset + bytes_in (lines s.end bytes) →
     IsRememberedBehind s q format (behind_block q format c bytes) bytes
     (record {
       progress = last;
@@ -446,7 +451,7 @@ pub follows : {A : Type 0} (s : Printer A) (q : Search) (format : Format) (c : C
 follows s q format c bytes before after place last count stop left offset r shows h passes is rest within left_is
     behind_is =
     let end = terminator q in
-    let hidden = held end s.window in
+    let hidden = lines_held end s.window in
     let ls = lines end (drop place.at bytes) in
     let others = drop place.progress.countdown ls in
     let ctx = context format.before in
@@ -545,7 +550,7 @@ pub pieces_same : {A : Type 0} (s : Printer A) (q : Search) (format : Format) (c
     (runs : List Run) (parts : List Part) (total cut : ℕ) → IsAtCursor s q format c
     → HasFound q bytes runs parts total
     → cut ≡ cut_at q s.format.limit s.progress.kept (lines (terminator q) bytes) →
-    part_rows s.format s.end s.prefix (s.progress.number + 1) s.offset cut bytes parts
+    rows_of_parts s.format s.end s.prefix (s.progress.number + 1) s.offset cut bytes parts
     ≡ run_pieces q format c.name c.trail (lines (terminator q) bytes)
 pieces_same s q format c bytes runs parts total cut r found is =
     let end = terminator q in
@@ -555,12 +560,12 @@ pieces_same s q format c bytes runs parts total cut r found is =
     is ∙ (ap (λ f. cut_at q f.limit s.progress.kept ls) r.format_is ∙ ap (λ k. cut_at q format.limit k ls) r.told.kept)
     in
     let number : ℕ = s.progress.number + 1 in
-    ap (λ f. part_rows f s.end s.prefix number s.offset cut bytes parts) r.format_is
-    ∙ (ap (λ e. part_rows format e s.prefix number s.offset cut bytes parts) r.end_is
-    ∙ (ap (λ n. part_rows format end n number s.offset cut bytes parts) r.name_is
-    ∙ (ap (λ k. part_rows format end c.name (k + 1) s.offset cut bytes parts) r.told.number
-    ∙ (ap (λ o. part_rows format end c.name (c.trail.number + 1) o cut bytes parts) r.offset
-    ∙ (ap (λ k. part_rows format end c.name (c.trail.number + 1) c.trail.offset k bytes parts) cut_is
-    ∙ (ap (part_rows format end c.name (c.trail.number + 1) c.trail.offset (cut_at q format.limit c.trail.kept ls)
+    ap (λ f. rows_of_parts f s.end s.prefix number s.offset cut bytes parts) r.format_is
+    ∙ (ap (λ e. rows_of_parts format e s.prefix number s.offset cut bytes parts) r.end_is
+    ∙ (ap (λ n. rows_of_parts format end n number s.offset cut bytes parts) r.name_is
+    ∙ (ap (λ k. rows_of_parts format end c.name (k + 1) s.offset cut bytes parts) r.told.number
+    ∙ (ap (λ o. rows_of_parts format end c.name (c.trail.number + 1) o cut bytes parts) r.offset
+    ∙ (ap (λ k. rows_of_parts format end c.name (c.trail.number + 1) c.trail.offset k bytes parts) cut_is
+    ∙ (ap (rows_of_parts format end c.name (c.trail.number + 1) c.trail.offset (cut_at q format.limit c.trail.kept ls)
     bytes) found_all
     ∙ sym (block_pieces q format c.name c.trail bytes)))))))

@@ -11,9 +11,9 @@ use Rattle.pg_blocks.specs.Lines.{terminated}
 use Rattle.pg_rows.specs.declared.format.Format.{Format}
 use Rattle.pg_selection.specs.declared.run.Part.{Part}
 use Rattle.pg_rows.specs.Colors.{in_color, name_color, number_color, mark_color}
-use Rattle.pg_rows.specs.Output.{is_nothing, name_end, name_text, number_text, has_prefix, size_of, tab_before, when}
+use Rattle.pg_rows.specs.Output.{is_nothing, name_end, name_text, number_text, has_prefix, bytes_in, tab_before, when}
 use Rattle.pg_rows.specs.Output.{row}
-use Rattle.pg_rows.specs.Stretch.{has_text, marked_rows, plain, plain_prefix_text, prefix_text, part_row, part_rows}
+use Rattle.pg_rows.specs.Stretch.{has_text, marked_rows, plain, plain_prefix_text, prefix_text, part_row, rows_of_parts}
 use Rattle.std.proofs.Math.Bool.{and-false}
 
 pub row_is : (format : Format) (end : ℕ) (name : List ℕ) (number offset mark : ℕ) (text : List ℕ)
@@ -48,7 +48,7 @@ pub marked_append : (format : Format) (end : ℕ) (name : List ℕ) (mark : ℕ)
     (number offset : ℕ) (xs ys : List (List ℕ))
     → marked_rows format end name mark text number offset (xs ++ ys)
     ≡ marked_rows format end name mark text number offset xs
-    ++ marked_rows format end name mark text (number + length xs) (offset + size_of xs) ys
+    ++ marked_rows format end name mark text (number + length xs) (offset + bytes_in xs) ys
 marked_append format end name mark text number offset [] ys =
     let z : number ≡ number + 0 = omega arith in
     let y : offset ≡ offset + 0 = omega arith in
@@ -56,13 +56,13 @@ marked_append format end name mark text number offset [] ys =
     ∙ ap (λ m. marked_rows format end name mark text (number + 0) m ys) y
 marked_append format end name mark text number offset (x ∷ xs) ys =
     let e : (number + 1) + length xs ≡ number + suc (length xs) = omega arith in
-    let f : (offset + (length x + 1)) + size_of xs ≡ offset + ((length x + 1) + size_of xs) = omega arith in
+    let f : (offset + (length x + 1)) + bytes_in xs ≡ offset + ((length x + 1) + bytes_in xs) = omega arith in
     let rest = marked_rows format end name mark text (number + 1) (offset + (length x + 1)) xs in
     let this = row format end name number offset mark (text x) in
     let others = marked_rows format end name mark text (number + suc (length xs))
-    (offset + ((length x + 1) + size_of xs)) ys in
+    (offset + ((length x + 1) + bytes_in xs)) ys in
     ap (λ zs. this ++ zs) (marked_append format end name mark text (number + 1) (offset + (length x + 1)) xs ys
-    ∙ (ap (λ m. rest ++ marked_rows format end name mark text m ((offset + (length x + 1)) + size_of xs) ys) e
+    ∙ (ap (λ m. rest ++ marked_rows format end name mark text m ((offset + (length x + 1)) + bytes_in xs) ys) e
     ∙ ap (λ m. rest ++ marked_rows format end name mark text (number + suc (length xs)) m ys) f))
     ∙ sym (append_assoc this rest others)
 
@@ -130,24 +130,24 @@ marked_anywhere format end name mark text number offset other (l ∷ ls) none =
 -- the row of a line in the middle of a text, and the rows of the lines behind it, if any
 pub marked_line : (format : Format) (end : ℕ) (name : List ℕ) (mark : ℕ) (text : List ℕ → List ℕ)
     (number offset size : ℕ) (all first later : List (List ℕ)) → length first ≡ 1
-    → (size_of first ≡ size) ⊎ (later ≡ []) → all ≡ first ++ later
+    → (bytes_in first ≡ size) ⊎ (later ≡ []) → all ≡ first ++ later
     → marked_rows format end name mark text number offset all
     ≡ marked_rows format end name mark text number offset first
     ++ marked_rows format end name mark text (number + 1) (offset + size) later
 marked_line format end name mark text number offset size all first later one place apart =
     ap (marked_rows format end name mark text number offset) apart
     ∙ (marked_append format end name mark text number offset first later
-    ∙ (ap (λ n. own ++ marked_rows format end name mark text (number + n) (offset + size_of first) later) one
+    ∙ (ap (λ n. own ++ marked_rows format end name mark text (number + n) (offset + bytes_in first) later) one
     ∙ ap (λ xs. own ++ xs) (go place)))
   where
     own : List ℕ
     own = marked_rows format end name mark text number offset first
 
-    go : (size_of first ≡ size) ⊎ (later ≡ [])
-        → marked_rows format end name mark text (number + 1) (offset + size_of first) later
+    go : (bytes_in first ≡ size) ⊎ (later ≡ [])
+        → marked_rows format end name mark text (number + 1) (offset + bytes_in first) later
         ≡ marked_rows format end name mark text (number + 1) (offset + size) later
     go (inl same) = ap (λ k. marked_rows format end name mark text (number + 1) (offset + k) later) same
-    go (inr none) = ap (marked_rows format end name mark text (number + 1) (offset + size_of first)) none
+    go (inr none) = ap (marked_rows format end name mark text (number + 1) (offset + bytes_in first)) none
         ∙ sym (ap (marked_rows format end name mark text (number + 1) (offset + size)) none)
 
 -- the rows of parts, one by one
@@ -158,12 +158,12 @@ filtered rows test p ps false e = ap (λ t. flat_map rows (cond t (p ∷ filter 
 
 pub parts_more : (format : Format) (end : ℕ) (name : List ℕ) (number offset cut : ℕ) (bytes : List ℕ) (ps : List Part)
     (k : ℕ) (d : Part)
-    → k < length ps → part_rows format end name number offset cut bytes (drop k ps)
+    → k < length ps → rows_of_parts format end name number offset cut bytes (drop k ps)
     ≡ when (nat_lt (get_or ps k d).line cut) (part_row format end name number offset bytes (get_or ps k d))
-    ++ part_rows format end name number offset cut bytes (drop (k + 1) ps)
+    ++ rows_of_parts format end name number offset cut bytes (drop (k + 1) ps)
 parts_more format end name number offset cut bytes ps k d below =
     let p = get_or ps k d in
-    ap (part_rows format end name number offset cut bytes) (drop_more ps k d below)
+    ap (rows_of_parts format end name number offset cut bytes) (drop_more ps k d below)
     ∙ filtered (part_row format end name number offset bytes) (λ x. nat_lt x.line cut) p (drop (k + 1) ps)
     (nat_lt p.line cut) refl
 

@@ -11,7 +11,7 @@ use Rattle.std.proofs.Math.Seq.{drop-nil}
 use Rattle.pg_selection.specs.Search.{Search, terminator}
 use Rattle.pg_selection.specs.Selection.{selects}
 use Rattle.pg_rows.specs.declared.format.Format.{Format}
-use Rattle.pg_rows.specs.Output.{is_below, context, gap_text, size_of, when, row, has_separators, painted}
+use Rattle.pg_rows.specs.Output.{is_below, context, gap_text, bytes_in, when, row, has_separators, painted}
 use Rattle.pg_rows.specs.Trail.{Trail, keeps, after_kept, after_context, after_other, step, run, run_rows, pieces_in}
 use Rattle.pg_rows.specs.Trail.{run_pieces, gap_row, context_rows, kept_rows, with_offset}
 use Rattle.pg_rows.specs.Stretch.{marked_rows, plain, AllSelected, AreUnkept}
@@ -300,7 +300,7 @@ pub kept_lines_rows : (q : Search) (format : Format) (name : List ℕ) (earlier 
     (ls : List (List ℕ)) → AllSelected q true (l ∷ ls) → is_below (t.kept + length ls) format.limit ≡ true →
     run_rows q format name earlier t (l ∷ ls)
     ≡ gap_row format (terminator q) earlier t
-    ++ (context_rows format (terminator q) name ((t.number + 1) - length t.window) (t.offset - size_of t.window)
+    ++ (context_rows format (terminator q) name ((t.number + 1) - length t.window) (t.offset - bytes_in t.window)
     t.window
     ++ marked_rows format (terminator q) name 58 (painted q format) (t.number + 1) t.offset (l ∷ ls))
 kept_lines_rows q format name earlier t l ls selected below =
@@ -311,7 +311,7 @@ kept_lines_rows q format name earlier t l ls selected below =
     and_from (selects q l) (is_below t.kept format.limit) selected.0 first in
     let next = step format t (selects q l) l in
     let gap = gap_row format end earlier t in
-    let window = context_rows format end name ((t.number + 1) - length t.window) (t.offset - size_of t.window)
+    let window = context_rows format end name ((t.number + 1) - length t.window) (t.offset - bytes_in t.window)
     t.window in
     let text = painted q format l in
     let own = row format end name (t.number + 1) t.offset 58 text in

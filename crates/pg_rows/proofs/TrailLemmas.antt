@@ -15,12 +15,12 @@ use Rattle.std.proofs.lemmas.List.Sums.{sum_by_push}
 use Rattle.pg_selection.specs.Search.{Search, terminator}
 use Rattle.pg_selection.specs.Selection.{selects}
 use Rattle.pg_rows.specs.declared.format.Format.{Format}
-use Rattle.pg_rows.specs.Output.{line_at, line_start, size_of, is_below, is_kept, is_near, context, members, when}
+use Rattle.pg_rows.specs.Output.{line_at, line_start, bytes_in, is_below, is_kept, is_near, context, places_in, when}
 use Rattle.pg_rows.specs.Output.{row, has_separators}
 use Rattle.pg_rows.specs.Output.{gap_text, is_behind, separator, mark_of, line_rows, part_rows, painted, shown_text}
 use Rattle.pg_rows.specs.Trail.{Trail, no_lines, keeps, after_kept, after_context, after_other, with_offset, step}
 use Rattle.pg_rows.specs.Trail.{gap_row}
-use Rattle.pg_rows.specs.Trail.{context_rows, kept_rows, added, pieces_in, added_pieces}
+use Rattle.pg_rows.specs.Trail.{context_rows, kept_rows, added_by_line, pieces_in, added_pieces}
 use Rattle.pg_rows.proofs.NearLemmas.{range_more, IsNear, near_none, near_same, old_below, new_above, new_self}
 use Rattle.pg_rows.proofs.NearLemmas.{IsNear-kept, IsNear-context, IsNear-other}
 use Rattle.pg_rows.proofs.SizeLemmas.{size_append, size_push}
@@ -42,8 +42,8 @@ Quota limit kept count = (kept ≡ count) ⊎ ((is_below kept limit ≡ false) �
 -- what is remembered fits the lines
 pub record IsTrail (q : Search) (format : Format) (ls : List (List ℕ)) (t : Trail) : Type 0 where
   pub number : t.number ≡ length ls
-  pub offset : t.offset ≡ size_of ls
-  pub count : t.kept ≡ length (members (is_kept q format.limit ls) ls)
+  pub offset : t.offset ≡ bytes_in ls
+  pub count : t.kept ≡ length (places_in (is_kept q format.limit ls) ls)
   pub quota : Quota format.limit t.kept (count_by (selects q) ls)
   pub done : ℕ
   pub near : IsNear (before_of format) (after_of format) (is_kept q format.limit ls) (length ls) done t.countdown
@@ -214,12 +214,12 @@ module _ (q : Search) (format : Format) (ls : List (List ℕ)) (l : List ℕ) (t
 
   -- a line begins where it began, and the new one behind the others
   start_same : (i : ℕ) → i ≤ n → line_start more i ≡ line_start ls i
-  start_same i below = ap size_of (take-append-le i ls (l ∷ []) below)
+  start_same i below = ap bytes_in (take-append-le i ls (l ∷ []) below)
 
   start_new : line_start more n ≡ t.offset
-  start_new = ap size_of (take_at ls (l ∷ []) n refl) ∙ sym h.offset
+  start_new = ap bytes_in (take_at ls (l ∷ []) n refl) ∙ sym h.offset
 
-  offset_more : t.offset + (length l + 1) ≡ size_of more
+  offset_more : t.offset + (length l + 1) ≡ bytes_in more
   offset_more = ap (λ k. k + (length l + 1)) h.offset ∙ sym (size_push ls l)
 
   kept_same : (i : ℕ) → i < n → kept' i ≡ kept i
@@ -237,7 +237,7 @@ module _ (q : Search) (format : Format) (ls : List (List ℕ)) (l : List ℕ) (t
   kept_new = kept_count ∙ ap (λ b. selects q l && b)
       (sym (below_of_quota format.limit t.kept (count_by (selects q) ls) h.quota))
 
-  count_more : length (members kept' more) ≡ t.kept + cond (keeps format t (selects q l)) 1 0
+  count_more : length (places_in kept' more) ≡ t.kept + cond (keeps format t (selects q l)) 1 0
   count_more =
       let z : 0 + n ≡ n = omega arith in
       ap (λ k. length (filter kept' (range_with_len 0 k))) long
@@ -568,23 +568,23 @@ module _ (q : Search) (format : Format) (ls : List (List ℕ)) (l : List ℕ) (t
         ]))
 
     -- where the lines of the window begin
-    window_start : (i : ℕ) → line_start ls (at + i) ≡ (t.offset - size_of t.window) + line_start t.window i
+    window_start : (i : ℕ) → line_start ls (at + i) ≡ (t.offset - bytes_in t.window) + line_start t.window i
     window_start i =
         let apart : take (at + i) ls ≡ take at ls ++ take i (drop at ls) = take-add at i ls in
-        let whole = ap size_of (take-append-drop at ls) in
+        let whole = ap bytes_in (take-append-drop at ls) in
         let both = size_append (take at ls) (drop at ls) in
-        let held = ap size_of h.window in
-        let first : size_of (take at ls) ≡ t.offset - size_of t.window = omega (arith, h.offset) in
-        ap size_of apart ∙ (size_append (take at ls) (take i (drop at ls))
+        let held = ap bytes_in h.window in
+        let first : bytes_in (take at ls) ≡ t.offset - bytes_in t.window = omega (arith, h.offset) in
+        ap bytes_in apart ∙ (size_append (take at ls) (take i (drop at ls))
         ∙ (ap (λ k. k + line_start (drop at ls) i) first
-        ∙ ap (λ ws. (t.offset - size_of t.window) + line_start ws i) (sym h.window)))
+        ∙ ap (λ ws. (t.offset - bytes_in t.window) + line_start ws i) (sym h.window)))
 
     window_rows : flat_map bare (range_with_len at (length t.window)) ≡ context_rows format end name
-        ((t.number + 1) - length t.window) (t.offset - size_of t.window) t.window
+        ((t.number + 1) - length t.window) (t.offset - bytes_in t.window) t.window
     window_rows =
         let w = window_length in
         let k : at + 1 ≡ (t.number + 1) - length t.window = omega (arith, h.number) in
-        let o : ℕ = t.offset - size_of t.window in
+        let o : ℕ = t.offset - bytes_in t.window in
         rows_are format end name bare at o t.window (λ i below.
         let d = h.near.low in
         let inside : at + i < n = omega arith in
@@ -641,7 +641,8 @@ module _ (q : Search) (format : Format) (ls : List (List ℕ)) (l : List ℕ) (t
         ∙ (append-nil (put set' emit' 0 h.done)
         ∙ (old_part h.done h.near.low (below_done e) ∙ sym old_rows)))))))
 
-    pub rows_step : line_rows q format name more earlier ≡ line_rows q format name ls earlier ++ added format end name
+    pub rows_step : line_rows q format name more earlier ≡ line_rows q format name ls earlier
+        ++ added_by_line format end name
         earlier t (selects q l) text l
     rows_step = rows_more ∙ go (keeps format t (selects q l)) refl (nat_lt 0 t.countdown) refl
       where

@@ -10,7 +10,7 @@ use Rattle.circular_buffer.specs.Buffer.{Buffer, buffer, keep_last}
 use Rattle.pg_blocks.specs.Lines.{lines}
 use Rattle.pg_rows.specs.declared.format.Format.{Format}
 use Rattle.pg_rows.specs.declared.window.Tail.{Tail}
-use Rattle.pg_rows.specs.Output.{size_of}
+use Rattle.pg_rows.specs.Output.{bytes_in}
 use Rattle.pg_rows.specs.Stretch.{marked_rows, plain}
 use Rattle.pg_rows.specs.Window.{tail_lines, lines_in, IsTail, AreHeld, GivesUp}
 use Rattle.pg_rows.proofs.RowLemmas.{marked_append}
@@ -197,10 +197,10 @@ tails_apart end skip t ts tail =
     ∙ ap (λ k. drop skip (tail_lines end t) ++ drop (skip - k) (lines_in end ts)) (sym tail.counted)
 
 pub shown_size : {A : Type 0} (end skip : ℕ) (t : Tail A) (ts : List (Tail A)) → IsTail end t
-    → size_of (drop skip (lines_in end (t ∷ ts)))
-    ≡ size_of (drop skip (tail_lines end t)) + size_of (drop (skip - t.lines) (lines_in end ts))
+    → bytes_in (drop skip (lines_in end (t ∷ ts)))
+    ≡ bytes_in (drop skip (tail_lines end t)) + bytes_in (drop (skip - t.lines) (lines_in end ts))
 shown_size end skip t ts tail =
-    ap size_of (tails_apart end skip t ts tail)
+    ap bytes_in (tails_apart end skip t ts tail)
     ∙ size_append (drop skip (tail_lines end t)) (drop (skip - t.lines) (lines_in end ts))
 
 -- the rows of the first tail and of those behind it, where some first lines are skipped
@@ -209,14 +209,14 @@ pub shown_tails : {A : Type 0} (format : Format) (end : ℕ) (name : List ℕ) (
     → marked_rows format end name 45 plain number offset (drop skip (lines_in end (t ∷ ts)))
     ≡ marked_rows format end name 45 plain number offset (drop skip (tail_lines end t))
     ++ marked_rows format end name 45 plain (number + (t.lines - skip))
-    (offset + size_of (drop skip (tail_lines end t))) (drop (skip - t.lines) (lines_in end ts))
+    (offset + bytes_in (drop skip (tail_lines end t))) (drop (skip - t.lines) (lines_in end ts))
 shown_tails format end name number offset skip t ts tail =
     let shown = drop skip (tail_lines end t) in
     let rows = λ (n o : ℕ) (ls : List (List ℕ)). marked_rows format end name 45 plain n o ls in
     let n : length shown ≡ t.lines - skip = omega (arith, length-drop skip (tail_lines end t), tail.counted) in
     ap (rows number offset) (tails_apart end skip t ts tail)
     ∙ (marked_append format end name 45 plain number offset shown (drop (skip - t.lines) (lines_in end ts))
-    ∙ ap (λ k. rows number offset shown ++ rows (number + k) (offset + size_of shown)
+    ∙ ap (λ k. rows number offset shown ++ rows (number + k) (offset + bytes_in shown)
     (drop (skip - t.lines) (lines_in end ts))) n)
 
 pub shown_count : {A : Type 0} (end skip : ℕ) (t : Tail A) (ts : List (Tail A)) → IsTail end t

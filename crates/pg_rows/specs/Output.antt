@@ -7,7 +7,7 @@ use Rattle.std.specs.List.{list_any, filter, flat_map, range_with_len, count_by}
 use Rattle.std.specs.Fmt.{decimal}
 use Rattle.pg_selection.specs.Search.{Search, terminator}
 use Rattle.pg_blocks.specs.Lines.{lines}
-use Rattle.pg_selection.specs.Selection.{selects, parts}
+use Rattle.pg_selection.specs.Selection.{selects, parts_of_line}
 use Rattle.pg_rows.specs.Marks.{colon, hyphen, newline, tab}
 use Rattle.pg_base.specs.Entries.{Entry, Missed, Read, is_running, is_failed}
 use Rattle.pg_rows.specs.declared.format.Format.{Format}
@@ -21,13 +21,13 @@ abbrev pub line_at : List (List ℕ) → ℕ → List ℕ
 line_at ls i = slice_index_or ls i []
 
 -- how many bytes lines have, each with its terminator
-abbrev pub size_of : List (List ℕ) → ℕ
-size_of [] = 0
-size_of (l ∷ ls) = (length l + 1) + size_of ls
+abbrev pub bytes_in : List (List ℕ) → ℕ
+bytes_in [] = 0
+bytes_in (l ∷ ls) = (length l + 1) + bytes_in ls
 
 -- where a line begins in its file: behind the lines before it, each with its terminator
 abbrev pub line_start : List (List ℕ) → ℕ → ℕ
-line_start ls i = size_of (take i ls)
+line_start ls i = bytes_in (take i ls)
 
 abbrev pub is_below : ℕ → Option ℕ → Bool
 is_below n None = true
@@ -55,8 +55,8 @@ abbrev pub is_shown : Search → Format → List (List ℕ) → ℕ → Bool
 is_shown q format ls i =
     is_near (is_kept q format.limit ls) (context format.before) (context format.after) (length ls) i
 
-abbrev pub members : (ℕ → Bool) → List (List ℕ) → List ℕ
-members set ls = filter set (range_with_len 0 (length ls))
+abbrev pub places_in : (ℕ → Bool) → List (List ℕ) → List ℕ
+places_in set ls = filter set (range_with_len 0 (length ls))
 
 abbrev pub when : Bool → List ℕ → List ℕ
 when shown text = if shown then text else []
@@ -140,7 +140,7 @@ mark_of kept = if kept then colon else hyphen
 
 -- the parts of a line that results of the query tell: none where the query isn't asked for them
 abbrev pub told_parts : Search → List ℕ → List (ℕ × ℕ)
-told_parts q line = if q.text.with_parts then parts q line else []
+told_parts q line = if q.text.with_parts then parts_of_line q line else []
 
 -- the text of a kept line: its matched parts stand in color
 abbrev pub painted : Search → Format → List ℕ → List ℕ
@@ -155,18 +155,18 @@ line_rows q format name ls earlier =
     flat_map (λ i. separator format (terminator q) (is_shown q format ls) earlier i
     ++ row format (terminator q) name (i + 1) (line_start ls i) (mark_of (is_kept q format.limit ls i))
     (shown_text q format (is_kept q format.limit ls i) (line_at ls i)))
-    (members (is_shown q format ls) ls)
+    (places_in (is_shown q format ls) ls)
 
 abbrev pub part_rows : Search → Format → List ℕ → List (List ℕ) → List ℕ
 part_rows q format name ls =
     flat_map (λ i. flat_map (λ p. row format (terminator q) name (i + 1) (line_start ls i + p.0) colon
     (part_text format (slice_range (line_at ls i) p.0 p.1)))
     (told_parts q (line_at ls i)))
-    (members (is_kept q format.limit ls) ls)
+    (places_in (is_kept q format.limit ls) ls)
 
 -- the rows of -c, -l and -L
 abbrev pub count_row : Search → Format → List ℕ → List (List ℕ) → List ℕ
-count_row q format name ls = count_text format name (length (members (is_kept q format.limit ls) ls))
+count_row q format name ls = count_text format name (length (places_in (is_kept q format.limit ls) ls))
 
 abbrev pub name_row : Search → Format → List ℕ → List (List ℕ) → List ℕ
 name_row q format name ls = when (is_named format.mode (list_any (selects q) ls)) (listed_text format name)

@@ -8,7 +8,7 @@ use Rattle.pg_selection.specs.declared.run.Run.{Run}
 use Rattle.pg_rows.specs.Marks.{colon, hyphen}
 use Rattle.pg_rows.specs.declared.format.Format.{Format}
 use Rattle.pg_rows.specs.declared.progress.Progress.{Progress}
-use Rattle.pg_rows.specs.Output.{context, gap_text, has_separators, size_of, when}
+use Rattle.pg_rows.specs.Output.{context, gap_text, has_separators, bytes_in, when}
 use Rattle.pg_rows.specs.Trail.{Trail, run, run_rows}
 use Rattle.pg_rows.specs.Cursor.{Cursor}
 use Rattle.pg_rows.specs.Progress.{IsOfTrail}
@@ -30,7 +30,7 @@ leading format p = min (context format.before) p.behind
 abbrev pub rows_of_leading : Format → ℕ → List ℕ → List (List ℕ) → Progress → (offset : ℕ) → List ℕ
 rows_of_leading format end name hidden p offset =
     marked_rows format end name hyphen plain ((p.number + 1) - leading format p)
-    (offset - size_of (keep_last (leading format p) hidden)) (keep_last (leading format p) hidden)
+    (offset - bytes_in (keep_last (leading format p) hidden)) (keep_last (leading format p) hidden)
 
 -- what stands before the next kept line, behind these lines that weren't shown: the separator, and its context
 abbrev pub rows_before : Format → ℕ → List ℕ → Bool → List (List ℕ) → Progress → (offset : ℕ) → List ℕ
@@ -59,7 +59,7 @@ pub record IsAt (q : Search) (format : Format) (c : Cursor) (hidden : List (List
   pub window : trail.window ≡ keep_last (leading format p) hidden
   pub within : at ≤ length bytes
   pub offset : (trail.offset ≡ c.trail.offset + at) ⊎ (drop at bytes ≡ [])
-  pub room : size_of trail.window ≤ trail.offset
+  pub room : bytes_in trail.window ≤ trail.offset
   pub part : List ℕ
   pub taken : after ≡ before ++ part
   pub rows : part ++ run_rows q format c.name c.earlier trail (lines (terminator q) (drop at bytes))

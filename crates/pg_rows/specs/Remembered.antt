@@ -14,13 +14,13 @@ use Rattle.pg_rows.specs.declared.printer.PrintedBlock.{PrintedBlock}
 use Rattle.pg_rows.specs.declared.printer.Place.{Place}
 use Rattle.pg_rows.specs.Modes.{shows_rows}
 use Rattle.pg_rows.specs.Modes.{rows_in}
-use Rattle.pg_rows.specs.Output.{context, is_below, size_of}
+use Rattle.pg_rows.specs.Output.{context, is_below, bytes_in}
 use Rattle.pg_rows.specs.Trail.{no_lines, run}
 use Rattle.pg_rows.specs.Cursor.{Cursor, block_rows, counted, named}
 use Rattle.pg_rows.specs.Progress.{IsOfTrail}
 use Rattle.pg_rows.specs.Stretch.{AllSelected}
 use Rattle.pg_rows.specs.Printing.{IsAt}
-use Rattle.pg_rows.specs.Window.{held, IsWindow}
+use Rattle.pg_rows.specs.Window.{lines_held, IsWindow}
 
 -- rows are those of whole lines: neither -c, -l, -L, -q nor -o
 abbrev pub shows_lines : Format → Bool
@@ -38,11 +38,11 @@ pub record IsAtCursor {A : Type 0} (p : Printer A) (q : Search) (format : Format
   pub name_is : p.prefix ≡ c.name
   pub told : IsOfTrail p.progress format c.trail
   pub offset : p.offset ≡ c.trail.offset
-  pub room : size_of c.trail.window ≤ c.trail.offset
+  pub room : bytes_in c.trail.window ≤ c.trail.offset
   pub holds : IsWindow (terminator q) p.window
   pub size : p.window.tails.capacity ≡ context format.before
   pub window : shows_lines format ≡ true
-      → c.trail.window ≡ keep_last (context format.before) (held (terminator q) p.window)
+      → c.trail.window ≡ keep_last (context format.before) (lines_held (terminator q) p.window)
 
 -- these runs hold the selected lines of the bytes, which have so many lines
 pub record HasLines (q : Search) (bytes : List ℕ) (runs : List Run) (count : ℕ) : Type 0 where
@@ -86,4 +86,5 @@ pub record IsRememberedBehind {A : Type 0} (p : Printer A) (q : Search) (format 
   pub within : printed.start ≤ length bytes
   pub count : printed.lines ≡ length (lines (terminator q) (drop printed.start bytes))
   pub window : shows_lines format ≡ true → c.trail.window ≡ keep_last (context format.before)
-      ((if printed.fresh then held (terminator q) p.window else []) ++ lines (terminator q) (drop printed.start bytes))
+      ((if printed.fresh then lines_held (terminator q) p.window else [])
+      ++ lines (terminator q) (drop printed.start bytes))

@@ -8,7 +8,7 @@ use Rattle.pg_rows.specs.declared.printer.Printer.{Printer}
 use Rattle.pg_rows.specs.declared.printer.PrintedBlock.{PrintedBlock}
 use Rattle.pg_rows.specs.declared.printer.Place.{Place}
 use Rattle.pg_rows.specs.Cursor.{Cursor}
-use Rattle.pg_rows.specs.Window.{held}
+use Rattle.pg_rows.specs.Window.{lines_held}
 use Rattle.pg_rows.specs.Remembered.{IsAtCursor, IsRememberedBehind, ComesLast, behind_block, shown_rows}
 
 -- The printer stands somewhere in the output of a query, the result is one of that query, and up to the end of its
@@ -40,7 +40,7 @@ abbrev pub ComesToLast : {A E : Type 0} → Printer A → SearchedBlock → (bef
 ComesToLast p found before after result =
     (q : Search) (format : Format) (c : Cursor) → IsAtCursor p q format c → HasItsTrees q → found.query ≡ q.text
     → IfOk result
-    (λ place. ComesLast q format c (held (terminator q) p.window) found.block.bytes before after p.progress place)
+    (λ place. ComesLast q format c (lines_held (terminator q) p.window) found.block.bytes before after p.progress place)
 
 -- where a write fails, a beginning of the block's rows is written
 abbrev pub StopsWithin : {A T E : Type 0} → Printer A → SearchedBlock → (before after : Stream) → Result T E → Type 0

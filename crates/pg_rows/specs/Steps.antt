@@ -12,10 +12,10 @@ use Rattle.pg_rows.specs.declared.progress.Progress.{Progress}
 use Rattle.pg_rows.specs.declared.printer.Printer.{Printer}
 use Rattle.pg_rows.specs.declared.printer.Place.{Place}
 use Rattle.pg_rows.specs.declared.printer.Step.{Step}
-use Rattle.pg_rows.specs.Output.{painted, size_of}
+use Rattle.pg_rows.specs.Output.{painted, bytes_in}
 use Rattle.pg_rows.specs.Progress.{Passes, KeepsLines}
 use Rattle.pg_rows.specs.Stretch.{marked_rows}
-use Rattle.pg_rows.specs.Window.{held, IsWindow}
+use Rattle.pg_rows.specs.Window.{lines_held, IsWindow}
 use Rattle.pg_rows.specs.Painting.{count_before, AreToldParts}
 use Rattle.pg_rows.specs.Printing.{leading, rows_of_leading, rows_before, rows_of_passed, rows_of_run}
 use Rattle.pg_rows.specs.Printing.{ComesNext, EndsKept}
@@ -32,8 +32,8 @@ pub record ComesBehind (end : ℕ) (progress : Progress) (offset : ℕ) (text : 
 pub record HasLeading {A : Type 0} (p : Printer A) (progress : Progress) (near : List (List ℕ)) (offset : ℕ) : Type 0
   where
     pub window : IsWindow p.end p.window
-    pub enough : leading p.format progress ≤ length (held p.end p.window) + length near
-    pub low : size_of (keep_last (leading p.format progress) (held p.end p.window ++ near)) ≤ offset
+    pub enough : leading p.format progress ≤ length (lines_held p.end p.window) + length near
+    pub low : bytes_in (keep_last (leading p.format progress) (lines_held p.end p.window ++ near)) ≤ offset
 
 -- the rows of lines of which none is kept, from this offset on
 abbrev pub shown_passed : {A : Type 0} → Printer A → Progress → (offset : ℕ) → List (List ℕ) → List ℕ
@@ -42,12 +42,12 @@ shown_passed p progress offset ls = rows_of_passed p.format p.end p.prefix progr
 -- the rows of the lines that are shown before the next kept one
 abbrev pub shown_leading : {A : Type 0} → Printer A → (near : List (List ℕ)) → Progress → (offset : ℕ) → List ℕ
 shown_leading p near progress offset =
-    rows_of_leading p.format p.end p.prefix (held p.end p.window ++ near) progress offset
+    rows_of_leading p.format p.end p.prefix (lines_held p.end p.window ++ near) progress offset
 
 -- these, and the separator before them
 abbrev pub shown_before : {A : Type 0} → Printer A → (near : List (List ℕ)) → Progress → (offset : ℕ) → List ℕ
 shown_before p near progress offset =
-    rows_before p.format p.end p.prefix p.earlier (held p.end p.window ++ near) progress offset
+    rows_before p.format p.end p.prefix p.earlier (lines_held p.end p.window ++ near) progress offset
 
 -- the rows of kept lines, the first of which stands at this position
 abbrev pub shown_kept : {A : Type 0} → Search → Printer A → Position → List (List ℕ) → List ℕ
@@ -71,7 +71,7 @@ gap_lines p bytes place run = lines p.end (slice_range bytes place.at run.span.s
 
 -- The printer may go from a place over the first lines of a run, so many: the run comes next and has as many lines, and
 -- all numbers stay small.
-pub record MayStep {A : Type 0} (p : Printer A) (bytes : List ℕ) (parts : List Part) (place : Place) (run : Run)
+pub record MayPrintRun {A : Type 0} (p : Printer A) (bytes : List ℕ) (parts : List Part) (place : Place) (run : Run)
     (count : ℕ) : Type 0 where
   pub next : ComesNext p.end bytes place.at place.seen run
   pub few : count ≤ run.count
@@ -100,6 +100,6 @@ pub record TakesParts {A : Type 0} (q : Search) (p : Printer A) (bytes : List �
 -- the rows of a step
 abbrev pub shown_step : {A : Type 0} → Search → Printer A → List ℕ → Place → Run → Step → List ℕ
 shown_step q p bytes place run next =
-    rows_of_run p.format p.end p.prefix p.earlier (held p.end p.window) place.progress next.passed
+    rows_of_run p.format p.end p.prefix p.earlier (lines_held p.end p.window) place.progress next.passed
     (p.offset + place.at) (gap_lines p bytes place run) (p.offset + run.span.start) (painted q p.format)
     (lines p.end (slice_range bytes run.span.start next.place.at))

@@ -92,8 +92,8 @@ part_row_within format end name first cut bytes part =
     when (nat_lt part.line cut) (part_row format end name first.number first.offset bytes part)
 
 -- the rows of the parts that stand in the first `cut` lines
-abbrev pub part_rows : Format → ℕ → List ℕ → (number offset : ℕ) → ℕ → List ℕ → List Part → List ℕ
-part_rows format end name number offset cut bytes parts =
+abbrev pub rows_of_parts : Format → ℕ → List ℕ → (number offset : ℕ) → ℕ → List ℕ → List Part → List ℕ
+rows_of_parts format end name number offset cut bytes parts =
     flat_map (part_row format end name number offset bytes) (filter (λ part. nat_lt part.line cut) parts)
 
 -- the span of the part is one of the bytes

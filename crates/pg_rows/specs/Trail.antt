@@ -7,7 +7,7 @@ use Rattle.pg_selection.specs.Search.{Search, terminator}
 use Rattle.pg_selection.specs.Selection.{selects}
 use Rattle.pg_rows.specs.Marks.{colon, hyphen}
 use Rattle.pg_rows.specs.declared.format.Format.{Format}
-use Rattle.pg_rows.specs.Output.{is_below, context, size_of, when, row, gap_text, has_separators}
+use Rattle.pg_rows.specs.Output.{is_below, context, bytes_in, when, row, gap_text, has_separators}
 use Rattle.pg_rows.specs.Output.{part_text, told_parts, painted}
 
 -- what is remembered of the lines so far: their number, their bytes with the terminators, how many are kept, how many
@@ -92,12 +92,12 @@ context_rows format end name number offset (l ∷ ls) =
 abbrev pub kept_rows : Format → ℕ → List ℕ → Bool → Trail → List ℕ → List ℕ
 kept_rows format end name earlier t text =
     gap_row format end earlier t
-    ++ (context_rows format end name ((t.number + 1) - length t.window) (t.offset - size_of t.window) t.window
+    ++ (context_rows format end name ((t.number + 1) - length t.window) (t.offset - bytes_in t.window) t.window
     ++ row format end name (t.number + 1) t.offset colon text)
 
 -- what a line adds, which has this text where it is kept
-abbrev pub added : Format → ℕ → List ℕ → Bool → Trail → Bool → (text l : List ℕ) → List ℕ
-added format end name earlier t selected text l =
+abbrev pub added_by_line : Format → ℕ → List ℕ → Bool → Trail → Bool → (text l : List ℕ) → List ℕ
+added_by_line format end name earlier t selected text l =
     if keeps format t selected
     then kept_rows format end name earlier t text
     else (when (nat_lt 0 t.countdown) (row format end name (t.number + 1) t.offset hyphen l))
@@ -106,7 +106,7 @@ added format end name earlier t selected text l =
 abbrev pub run_rows : Search → Format → List ℕ → Bool → Trail → List (List ℕ) → List ℕ
 run_rows q format name earlier t [] = []
 run_rows q format name earlier t (l ∷ ls) =
-    added format (terminator q) name earlier t (selects q l) (painted q format l) l
+    added_by_line format (terminator q) name earlier t (selects q l) (painted q format l) l
     ++ run_rows q format name earlier (step format t (selects q l) l) ls
 
 -- the rows of the matched parts of a line that is kept, with this number and offset

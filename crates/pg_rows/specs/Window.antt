@@ -20,8 +20,8 @@ abbrev pub lines_in : {A : Type 0} → ℕ → List (Tail A) → List (List ℕ)
 lines_in end tails = flat_map (tail_lines end) tails
 
 -- the lines that a window holds
-abbrev pub held : {A : Type 0} → ℕ → Window A → List (List ℕ)
-held end window = lines_in end window.tails.items
+abbrev pub lines_held : {A : Type 0} → ℕ → Window A → List (List ℕ)
+lines_held end window = lines_in end window.tails.items
 
 -- the tail stands in its block, and has as many lines as it says, at least one
 pub record IsTail {A : Type 0} (end : ℕ) (tail : Tail A) : Type 0 where
@@ -49,7 +49,7 @@ pub record IsEmptyWindow {A : Type 0} (w : Window A) (most : ℕ) : Type 0 where
 -- the window holds so many lines, and may be asked for its last ones
 pub record HoldsLast {A : Type 0} (end : ℕ) (w : Window A) (count : ℕ) : Type 0 where
   pub window : IsWindow end w
-  pub within : count ≤ length (held end w)
+  pub within : count ≤ length (lines_held end w)
 
 -- some first lines were given up, if any, and those that are left are `size` lines with the ones to come
 pub record GivesUp (size more : ℕ) (before after : List (List ℕ)) : Type 0 where
@@ -67,7 +67,7 @@ pub record MakesRoom {A : Type 0} (end more : ℕ) (old new : Window A) : Type 0
   pub size : new.tails.capacity ≡ old.tails.capacity
   pub window : IsWindow end new
   pub room : HasRoomFor end more new
-  pub gives_up : GivesUp old.tails.capacity more (held end old) (held end new)
+  pub gives_up : GivesUp old.tails.capacity more (lines_held end old) (lines_held end new)
 
 -- the window may take the lines of a block from a place on, so many
 pub record MayTake {A : Type 0} (end : ℕ) (w : Window A) (block : BlockData) (start count : ℕ) : Type 0 where
@@ -79,5 +79,6 @@ pub record MayTake {A : Type 0} (end : ℕ) (w : Window A) (block : BlockData) (
 pub record TakesLines {A : Type 0} (end : ℕ) (old new : Window A) (more : List (List ℕ)) : Type 0 where
   pub size : new.tails.capacity ≡ old.tails.capacity
   pub window : IsWindow end new
-  pub last : keep_last old.tails.capacity (held end new) ≡ keep_last old.tails.capacity (held end old ++ more)
-  pub enough : (old.tails.capacity ≤ length (held end new)) ⊎ (held end new ≡ held end old ++ more)
+  pub last : keep_last old.tails.capacity (lines_held end new)
+      ≡ keep_last old.tails.capacity (lines_held end old ++ more)
+  pub enough : (old.tails.capacity ≤ length (lines_held end new)) ⊎ (lines_held end new ≡ lines_held end old ++ more)

@@ -8,7 +8,7 @@ ghost use Rattle.pg_selection.specs.Search.{Search, terminator};
 ghost use Rattle.pg_rows.specs.Pieces.{cut_at};
 ghost use Rattle.pg_rows.specs.Places.{FirstLines};
 ghost use Rattle.pg_rows.specs.Remembered.{HasLines};
-ghost use Rattle.pg_rows.specs.Output.{listed_text, size_of, when};
+ghost use Rattle.pg_rows.specs.Output.{listed_text, bytes_in, when};
 ghost use Rattle.pg_blocks.specs.Lines.{lines, AreWhole};
 ghost use Rattle.pg_base.specs.Sink.{WritesText};
 
@@ -137,7 +137,7 @@ impl<A: Allocator> Printer<A> {
     ghost use Rattle.pg_rows.specs.Printing.{has_gap, gap_of, leading};
     ghost use Rattle.pg_rows.specs.Painting.{count_before};
     ghost use Rattle.pg_rows.specs.Steps.{gap_lines, shown_before, shown_leading, shown_passed, shown_step};
-    ghost use Rattle.pg_rows.specs.Steps.{ComesBehind, HasLeading, MayStep, StepsOver, TakesParts};
+    ghost use Rattle.pg_rows.specs.Steps.{ComesBehind, HasLeading, MayPrintRun, StepsOver, TakesParts};
 
     /// A printer to which nothing was given, for the rows of selected lines. It reserves the room of its window.
     ///
@@ -247,7 +247,7 @@ impl<A: Allocator> Printer<A> {
     /// Where a block ends in the open file: a last line without a terminator counts as if it had one.
     fn behind(&self, bytes: &[u8]) -> u64
         requires { self.now.offset + length bytes.now < 2 ^ 63 }
-        ensures { result ≡ self.now.offset + size_of (lines self.now.end bytes.now) }
+        ensures { result ≡ self.now.offset + bytes_in (lines self.now.end bytes.now) }
     {
         self.offset + size_of_lines(self.end, bytes)
     }
@@ -528,7 +528,7 @@ impl<A: Allocator> Printer<A> {
 
     /// Goes from a place to the place behind the first lines of a run, so many.
     fn step(&self, place: Place, bytes: &[u8], run: Run, count: usize, parts: &[Part]) -> Step
-        requires { MayStep self.now bytes.now parts.now place run count }
+        requires { MayPrintRun self.now bytes.now parts.now place run count }
         ensures { StepsOver self.now bytes.now parts.now place run count result }
     {
         let passed = place.progress.pass((run.first - place.seen) as u64);
@@ -554,7 +554,7 @@ impl<A: Allocator> Printer<A> {
         next: Step,
         parts: &[Part],
     ) -> Result<(), WriteError>
-        requires may { MayStep self.old bytes.now parts.now place kept.run kept.count }
+        requires may { MayPrintRun self.old bytes.now parts.now place kept.run kept.count }
         requires steps { StepsOver self.old bytes.now parts.now place kept.run kept.count next }
         requires leading { HasLeading self.old next.passed
             (drop place.progress.countdown (gap_lines self.old bytes.now place kept.run))

@@ -2,9 +2,9 @@
 ghost use Rattle.std.specs.Prelude.{◌≡◌, ◌++◌, [], ◌∷◌, if◌then◌else◌};
 ghost use Rattle.std.specs.Prelude.{length, nat_lt, not, ◌||◌, ◌==◌, EachIndex, get_or};
 ghost use Rattle.pg_blocks.specs.Lines.{lines, terminated};
-ghost use Rattle.pg_rows.specs.Output.{count_text, is_nothing, size_of, gap_text, listed_text, part_text};
+ghost use Rattle.pg_rows.specs.Output.{count_text, is_nothing, bytes_in, gap_text, listed_text, part_text};
 ghost use Rattle.pg_rows.specs.Painting.{painted_bytes, AreWithin};
-ghost use Rattle.pg_rows.specs.Stretch.{has_text, part_row_within, part_rows, plain_rows, row_at};
+ghost use Rattle.pg_rows.specs.Stretch.{has_text, part_row_within, rows_of_parts, plain_rows, row_at};
 ghost use Rattle.pg_rows.specs.Stretch.{CanNumber, IsPartOf, no_part};
 ghost use Rattle.pg_base.specs.Sink.{WritesText};
 
@@ -27,7 +27,7 @@ fn is_incomplete(end: u8, text: &[u8]) -> bool
 
 /// How many bytes some lines have, each with its terminator.
 pub(crate) fn size_of_lines(end: u8, text: &[u8]) -> u64
-    ensures { result ≡ size_of (lines end text.now) }
+    ensures { result ≡ bytes_in (lines end text.now) }
 {
     if is_incomplete(end, text) {
         text.len() as u64 + 1
@@ -223,7 +223,8 @@ pub(crate) fn write_parts<W: Sink, A: Allocator>(
     requires within { EachIndex parts.now (λ k. IsPartOf bytes.now (get_or parts.now k no_part)) }
     requires fits { CanNumber lines.first lines.count (length bytes.now) }
     ensures same { prefix.new ≡ prefix.old }
-    ensures writes { WritesText (part_rows format.now end prefix.old lines.first.number lines.first.offset lines.count
+    ensures writes { WritesText (rows_of_parts format.now end prefix.old lines.first.number lines.first.offset
+        lines.count
         bytes.now parts.now) (W.stream out.old) (W.stream out.new) result }
 {
     for part in parts {

@@ -6,9 +6,9 @@ ghost use Rattle.circular_buffer.specs.Buffer.{keep_last};
 ghost use Rattle.pg_base.specs.Sink.{WritesText};
 ghost use Rattle.pg_blocks.specs.Lines.{lines};
 ghost use Rattle.pg_rows.specs.Marks.{hyphen};
-ghost use Rattle.pg_rows.specs.Output.{size_of};
+ghost use Rattle.pg_rows.specs.Output.{bytes_in};
 ghost use Rattle.pg_rows.specs.Stretch.{plain_rows, CanNumber};
-ghost use Rattle.pg_rows.specs.Window.{lines_from, tail_lines, held, IsTail, IsWindow, IsEmptyWindow, HoldsLast};
+ghost use Rattle.pg_rows.specs.Window.{lines_from, tail_lines, lines_held, IsTail, IsWindow, IsEmptyWindow, HoldsLast};
 ghost use Rattle.pg_rows.specs.Window.{MakesRoom, MayTake, TakesLines};
 
 use crate::format::Format;
@@ -76,11 +76,11 @@ impl<A: Allocator> Tail<A> {
         skip: usize,
     ) -> Result<u64, WriteError>
         requires tail { IsTail end self.now }
-        requires fits { let ls = drop skip (tail_lines end self.now) in CanNumber first (length ls) (size_of ls) }
+        requires fits { let ls = drop skip (tail_lines end self.now) in CanNumber first (length ls) (bytes_in ls) }
         ensures same { prefix.new ≡ prefix.old }
         ensures writes { WritesText (plain_rows format.now end prefix.old hyphen first
             (drop skip (tail_lines end self.now))) (W.stream out.old) (W.stream out.new) result }
-        ensures size { IfOk result (λ size. size ≡ size_of (drop skip (tail_lines end self.now))) }
+        ensures size { IfOk result (λ size. size ≡ bytes_in (drop skip (tail_lines end self.now))) }
     {
         let text = self.text_from(end, skip);
         write_lines(out, format, end, prefix, b'-', first, text)?;
@@ -126,7 +126,7 @@ impl<A: Allocator> Window<A> {
     pub(crate) fn clear_unless(&mut self, fresh: bool)
         ensures size { self.new.tails.capacity ≡ self.old.tails.capacity }
         ensures window { (end : ℕ) → IsWindow end self.old → IsWindow end self.new }
-        ensures held { (end : ℕ) → held end self.new ≡ (if fresh then held end self.old else []) }
+        ensures held { (end : ℕ) → lines_held end self.new ≡ (if fresh then lines_held end self.old else []) }
     {
         if !fresh {
             self.clear();
@@ -187,8 +187,8 @@ impl<A: Allocator> Window<A> {
     /// How many bytes the last `count` lines have, each with its terminator.
     fn size_of_last(&self, end: u8, count: usize) -> u64
         requires holds { HoldsLast end self.now count }
-        requires small { size_of (keep_last count (held end self.now)) < 2 ^ 64 }
-        ensures { result ≡ size_of (keep_last count (held end self.now)) }
+        requires small { bytes_in (keep_last count (lines_held end self.now)) < 2 ^ 64 }
+        ensures { result ≡ bytes_in (keep_last count (lines_held end self.now)) }
     {
         let mut skip = self.lines - count;
         let mut size = 0;
@@ -203,8 +203,9 @@ impl<A: Allocator> Window<A> {
     /// it.
     pub(crate) fn offset_of_last(&self, format: &Format, end: u8, offset: u64, count: usize) -> u64
         requires holds { HoldsLast end self.now count }
-        requires low { size_of (keep_last count (held end self.now)) ≤ offset }
-        ensures { result ≡ (if format.now.offsets then offset - size_of (keep_last count (held end self.now)) else 0) }
+        requires low { bytes_in (keep_last count (lines_held end self.now)) ≤ offset }
+        ensures { result ≡ (if format.now.offsets then offset - bytes_in (keep_last count (lines_held end self.now))
+            else 0) }
     {
         if format.offsets {
             offset - self.size_of_last(end, count)
@@ -228,10 +229,10 @@ impl<A: Allocator> Window<A> {
         count: usize,
     ) -> Result<(), WriteError>
         requires holds { HoldsLast end self.now count }
-        requires fits { CanNumber first count (size_of (keep_last count (held end self.now))) }
+        requires fits { CanNumber first count (bytes_in (keep_last count (lines_held end self.now))) }
         ensures same { prefix.new ≡ prefix.old }
         ensures writes { WritesText (plain_rows format.now end prefix.old hyphen first
-            (keep_last count (held end self.now))) (W.stream out.old) (W.stream out.new) result }
+            (keep_last count (lines_held end self.now))) (W.stream out.old) (W.stream out.new) result }
     {
         let mut skip = self.lines - count;
         let mut at = first;

@@ -6,8 +6,8 @@ use Rattle.std.proofs.lemmas.List.{append-nil}
 use Rattle.std.proofs.lemmas.List.Concat.{flat_map-append}
 use Rattle.pg_blocks.specs.Lines.{lines, AreShort, AreWhole}
 use Rattle.pg_blocks.specs.Blocks.{BlockData, joined, EndsWith, AreNumbered}
-use Rattle.pg_blocks.specs.Cutter.{CutterPast, handed as handed_out, IsCutterAfter, IsNextBlock, AreAllBlocks}
-use Rattle.pg_blocks.specs.Cutter.{HasLinesLeft, held}
+use Rattle.pg_blocks.specs.Cutter.{CutterPast, past_handed as handed_out, IsCutterAfter, IsNextBlock, AreAllBlocks}
+use Rattle.pg_blocks.specs.Cutter.{HasLinesLeft, bytes_held}
 use Rattle.pg_blocks.specs.declared.cutter.Cutter.{Cutter}
 use Rattle.pg_blocks.proofs.LineLemmas.{lines-append, whole_append}
 use Rattle.pg_blocks.proofs.EarlyLemmas.{AllEnd, fed_end, fed_whole, all_are_cutting}
@@ -36,7 +36,7 @@ all_apart P (x ∷ xs) ys h = let r = all_apart P xs ys h.1 in ((h.0, r.0), r.1)
 pub given_end : {A : Type 0} (cutter : Cutter A) (f : CutterPast) (end : ℕ) → IsCutterAfter cutter f → f.end ≡ end
     → AllEnd end f.taken
 given_end cutter f end s ends =
-    let all = fed_end f (f.taken ++ cutter.ready.items) (held cutter) s.cut in
+    let all = fed_end f (f.taken ++ cutter.ready.items) (bytes_held cutter) s.cut in
     let P : ℕ → Type 0 = λ e. AllEnd e f.taken in
     subst P ends (all_apart (λ b. EndsWith f.end b.bytes) f.taken cutter.ready.items all).0
 

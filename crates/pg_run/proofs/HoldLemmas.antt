@@ -17,7 +17,7 @@ use Rattle.pg_plan.specs.declared.answers.Arrival.TheVariants.{Taken}
 use Rattle.pg_plan.specs.declared.answers.SinkFault.{SinkFault}
 use Rattle.pg_plan.specs.declared.answers.SinkFault.TheVariants.{WriteFailed, Failed}
 use Rattle.pg_plan.specs.Plan.{Step, Announces, MayFollow, IsShaped, IsPlan, announced, opened, entries_of, is_open}
-use Rattle.pg_plan.specs.History.{Past, Planned, Arrived, start, planned, arrived, plan, taken_of, taken_after}
+use Rattle.pg_plan.specs.History.{Past, Planned, Arrived, past_at_start, planned, arrived, plan, taken_of, taken_after}
 use Rattle.pg_plan.specs.History.{is_taken, all_taken, answer, answer_after, front_of, front_after, handed}
 use Rattle.pg_plan.specs.History.{handed_after, IsComplete, status_of}
 use Rattle.pg_seq.specs.Standing.{IsAfter}
@@ -69,7 +69,7 @@ all_push keys bs b e =
 pub holds_new : {A Q C : Type 0} {asks : Ghosts Q A C} (engine : Engine A Q C asks) (aim : Aim)
     → SearchesFor engine aim.query
     → engine.setup ≡ aim.setup → engine.files ≡ 0 → waiting engine ≡ []
-    → IsAfter engine.sequencer (start aim.query (format_of aim)) → HasPlan engine aim [] aim.out
+    → IsAfter engine.sequencer (past_at_start aim.query (format_of aim)) → HasPlan engine aim [] aim.out
 holds_new engine aim same set count none stands = record {
   same = same;
   set = set;

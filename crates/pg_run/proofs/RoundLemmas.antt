@@ -26,7 +26,7 @@ use Rattle.pg_plan.proofs.BeginLemmas.{shape_of}
 use Rattle.pg_run.specs.Outcome.{NoneFailed}
 use Rattle.pg_run.specs.Holding.{Aim, HasPlan, AllIsWritten, BreaksOffInSearch, SearchCause, past_of, format_of}
 use Rattle.pg_run.specs.Holding.{SearchesFor, output_of, waiting}
-use Rattle.pg_workers.specs.Results.{HasResult, HasAll}
+use Rattle.pg_workers.specs.Results.{HasResultOf, HasAll}
 use Rattle.pg_workers.specs.Searches.{SearchView}
 use Rattle.pg_run.specs.Searches.{FindsLines}
 use Rattle.pg_round.specs.Receipts.{arrivals, HasRound, WroteSafely, FailedBy, NoOtherFailed}
@@ -123,7 +123,7 @@ module _ {A : Type 0} where
 module _ {A C : Type 0} {view : SearchView (Arc BlockData A) C SearchedBlock} where
   came_of : (text : SearchText) → FindsLines view text → (blocks : List (Arc BlockData A)) (n : ℕ)
       (block : Arc BlockData A) → slice_get blocks n ≡ Some block → (rs : List SearchedBlock)
-      → HasResult view.finds blocks n rs → ReadOutcome text (arc_value block) rs
+      → HasResultOf view.finds blocks n rs → ReadOutcome text (arc_value block) rs
   came_of text finds blocks n block at [] h = absurd h
   came_of text finds blocks n block at (r ∷ rs) h = elim h [
     | inl is ↦

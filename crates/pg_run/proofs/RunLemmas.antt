@@ -24,7 +24,7 @@ use Rattle.pg_files.specs.Given.{FileOutcome, NoFile, File, FilesPast, entries_g
 use Rattle.pg_run.specs.Told.{AddsFailure, faults_of, fault_of, told_of}
 use Rattle.pg_base.specs.Causes.{fault_line}
 use Rattle.pg_run.specs.Outcome.{AreReadRightly, EndsAtSelected, RunFinishes, BreaksOff, HasCause, GotWholeLines}
-use Rattle.pg_run.specs.Holding.{Aim, HasPlan, BreaksOffInSearch, AllIsWritten, IsFinished, IsWrittenFirst}
+use Rattle.pg_run.specs.Holding.{Aim, HasPlan, BreaksOffInSearch, AllIsWritten, IsFinishedRun, IsWrittenFirst}
 use Rattle.pg_run.specs.Holding.{format_of, output_of}
 use Rattle.pg_run.specs.Cover.{HasOpenFile}
 use Rattle.pg_reader.specs.Reads.{IsLost, ending_after}
@@ -470,7 +470,7 @@ read_rightly {aim = aim} {given = given} b quiet none given' (inr e) =
 module _ {A Q C : Type 0} {asks : Ghosts Q A C} {engine : Engine A Q C asks} {aim : Aim}
     {finds : List (List ℕ) → Type 0} {past : FilesPast}
     {out told : Stream} (d : IsDone engine aim finds past out told) where
-  pub done_finishes : (out' : Stream) (answer : ℕ) → IsFinished aim d.rests.0.steps out' answer
+  pub done_finishes : (out' : Stream) (answer : ℕ) → IsFinishedRun aim d.rests.0.steps out' answer
       → RunFinishes aim.query aim.setup finds past aim.out out' aim.told told answer
   done_finishes out' answer k =
       let b = d.rests.0 in

@@ -87,8 +87,8 @@ module _ {A Q C : Type 0} {asks : Ghosts Q A C} where
       → HasPlan engine aim [] aim.out
 
   -- the engine has this plan, and the step may follow
-  abbrev pub IsReady : Engine A Q C asks → Aim → List Step → Stream → Step → Type 0
-  IsReady engine aim steps out step = HasPlan engine aim steps out × MayStep aim steps step
+  abbrev pub HasPlanFor : Engine A Q C asks → Aim → List Step → Stream → Step → Type 0
+  HasPlanFor engine aim steps out step = HasPlan engine aim steps out × MayStep aim steps step
 
   -- for some run the engine has some plan
   abbrev pub HasSomePlan : Engine A Q C asks → Stream → Type 0
@@ -96,17 +96,17 @@ module _ {A Q C : Type 0} {asks : Ghosts Q A C} where
 
   -- for some run the step may follow on its plan
   abbrev pub MayTakeStep : Engine A Q C asks → Step → Type 0
-  MayTakeStep engine step = (aim : Aim) × (steps : List Step) × (out : Stream) × IsReady engine aim steps out step
+  MayTakeStep engine step = (aim : Aim) × (steps : List Step) × (out : Stream) × HasPlanFor engine aim steps out step
 
   -- at Ok the step was added to each plan on which it may follow
   abbrev pub TakesStep : {T E : Type 0} → (old new : Engine A Q C asks) → Step → Result T E → Type 0
-  TakesStep old new step result = (aim : Aim) → (steps : List Step) → (out : Stream) → IsReady old aim steps out step
+  TakesStep old new step result = (aim : Aim) → (steps : List Step) → (out : Stream) → HasPlanFor old aim steps out step
       → OnOk result (HasPlan new aim (step ∷ steps) out)
 
   -- At Ok this file was opened on each plan on which that may follow, and the answer is a new cutter for it.
-  abbrev pub OpensFile : {E : Type 0} → (old new : Engine A Q C asks) → (name : List ℕ) → Result (Cutter A) E → Type 0
-  OpensFile old new name result = (aim : Aim) → (steps : List Step) → (out : Stream)
-      → IsReady old aim steps out (Opens name)
+  abbrev pub OpensOnPlan : {E : Type 0} → (old new : Engine A Q C asks) → (name : List ℕ) → Result (Cutter A) E → Type 0
+  OpensOnPlan old new name result = (aim : Aim) → (steps : List Step) → (out : Stream)
+      → HasPlanFor old aim steps out (Opens name)
       → IfOk result (λ cutter. HasPlan new aim (Opens name ∷ steps) out
       × IsCutterAfter cutter (unfed (terminator aim.query) old.files aim.setup.block aim.setup.line)
       × IsDrained cutter)
@@ -139,7 +139,8 @@ module _ {A Q C : Type 0} {asks : Ghosts Q A C} where
   abbrev pub SearchesStep : {T : Type 0} → (old new : Engine A Q C asks) → Step → (before after : Stream)
       → Result T RunFault
       → Type 0
-  SearchesStep old new step before after result = (aim : Aim) → (steps : List Step) → IsReady old aim steps before step
+  SearchesStep old new step before after result = (aim : Aim) → (steps : List Step)
+      → HasPlanFor old aim steps before step
       → MatchResult result (λ _. HasPlan new aim (step ∷ steps) after
       × (old.spread ≡ false → AllIsWritten aim (step ∷ steps) after)) (BreaksOffInSearch aim (step ∷ steps) after)
 
@@ -165,7 +166,7 @@ module _ {A Q C : Type 0} {asks : Ghosts Q A C} where
     pub outcome : WritesPlan old new before after result
 
 -- all that the plan gives is written, its status is answered, and no write failed
-pub record IsFinished (aim : Aim) (steps : List Step) (out : Stream) (answer : ℕ) : Type 0 where
+pub record IsFinishedRun (aim : Aim) (steps : List Step) (out : Stream) (answer : ℕ) : Type 0 where
   pub written : AllIsWritten aim steps out
   pub answered : answer ≡ status aim.query (format_of aim) (entries_of steps)
   pub calm : out.failures ≡ aim.out.failures

@@ -157,8 +157,8 @@ impl<'q, A: Allocator + Copy, Q: BlockSearch<Alloc = A>> Engine<'q, A, Q> {
     ghost use Rattle.pg_rows.specs.Enough.{is_enough};
     ghost use Rattle.pg_plan.specs.Plan.{Step, Opens, Announces, Ends, Misses, entries_of};
     ghost use Rattle.pg_base.specs.Sink.{Stream};
-    ghost use Rattle.pg_run.specs.Holding.{Aim, HasPlan, HasRoomInRound, IsNewEngine, IsReady, format_of};
-    ghost use Rattle.pg_run.specs.Holding.{EmptiesRound, KeepsPlan, MayTakeStep, OpensFile, PlansStay};
+    ghost use Rattle.pg_run.specs.Holding.{Aim, HasPlan, HasRoomInRound, IsNewEngine, HasPlanFor, format_of};
+    ghost use Rattle.pg_run.specs.Holding.{EmptiesRound, KeepsPlan, MayTakeStep, OpensOnPlan, PlansStay};
     ghost use Rattle.pg_run.specs.Holding.{SearchesAsBefore, SearchesStep, TakesStep};
 
     /// An engine that has no file yet, for the lines that the selector selects, which the query finds.
@@ -333,7 +333,7 @@ impl<'q, A: Allocator + Copy, Q: BlockSearch<Alloc = A>> Engine<'q, A, Q> {
     pub(crate) fn open(&mut self, name: &[u8]) -> Result<Cutter<A>, AllocError>
         requires few { self.old.files < 2 ^ 32 - 1 }
         requires ready { MayTakeStep self.old (Opens name.now) }
-        ensures { OpensFile self.old self.new name.now result }
+        ensures { OpensOnPlan self.old self.new name.now result }
     {
         self.sequencer.open(name)?;
         let file = self.files;
@@ -358,7 +358,7 @@ impl<'q, A: Allocator + Copy, Q: BlockSearch<Alloc = A>> Engine<'q, A, Q> {
     /// Ends the open file.
     pub(crate) fn end(&mut self, failed: bool)
         requires { MayTakeStep self.old (Ends failed) }
-        ensures { (aim : Aim) → (steps : List Step) → (out : Stream) → IsReady self.old aim steps out (Ends failed) →
+        ensures { (aim : Aim) → (steps : List Step) → (out : Stream) → HasPlanFor self.old aim steps out (Ends failed) →
             HasPlan self.new aim (Ends failed ∷ steps) out }
     {
         self.sequencer.end(failed);
@@ -393,7 +393,7 @@ impl<A: Allocator + Copy + Send + Sync, Q: BlockSearch<Alloc = A, Scratch: Send>
     ghost use Rattle.pg_plan.specs.Plan.{Step, is_open};
     ghost use Rattle.pg_reader.specs.Going.{HasGoneOn};
     ghost use Rattle.pg_run.specs.Holding.{Aim, HasPlan, HasRoomInRound, HasSomePlan, BreaksOffInSearch};
-    ghost use Rattle.pg_run.specs.Holding.{EmptiesRound, IsFinished, IsWrittenFirst, KeepsPlan};
+    ghost use Rattle.pg_run.specs.Holding.{EmptiesRound, IsFinishedRun, IsWrittenFirst, KeepsPlan};
 
     /// Searches the blocks that wait, by several threads where that pays, and writes all that may be written. Meanwhile
     /// the reader reads on.
@@ -545,7 +545,7 @@ impl<A: Allocator + Copy + Send + Sync, Q: BlockSearch<Alloc = A, Scratch: Send>
         requires holds { (aim : Aim) × (steps : List Step)
             × HasPlan self.old aim steps (W.stream out.old) × (is_open steps ≡ false) }
         ensures { (aim : Aim) → (steps : List Step) → HasPlan self.old aim steps (W.stream out.old) →
-            MatchResult result (IsFinished aim steps (W.stream out.new))
+            MatchResult result (IsFinishedRun aim steps (W.stream out.new))
             (BreaksOffInSearch aim steps (W.stream out.new)) }
     {
         self.flush(rt, out)?;

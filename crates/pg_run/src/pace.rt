@@ -11,7 +11,8 @@ const SAMPLE_NANOS: u64 = 1_000_000;
 /// A search that takes more than a nanosecond a byte is slow: a faster one was seen to gain nothing by several threads.
 const NANOS_A_BYTE: u64 = 1;
 
-/// No search counts for more nanoseconds a byte. One that takes far longer says little: its thread may have been held up.
+/// No search counts for more nanoseconds a byte. One that takes far longer says little: its thread may have been held
+/// up.
 const MOST_NANOS_A_BYTE: u64 = 8;
 
 /// So many nanoseconds of each search aren't counted: they don't come of its bytes.

@@ -6,7 +6,7 @@ use Rattle.pg_search.specs.declared.fault.SearchFault.{SearchFault}
 use Rattle.pg_search.specs.declared.fault.SearchFault.TheVariants.{Query, Run}
 
 -- a query that was refused memory is a run that was
-abbrev pub fault_of_query : QueryFault → SearchFault
-fault_of_query (Syntax fault) = Query (Syntax fault)
-fault_of_query TooLarge = Query TooLarge
-fault_of_query NoMemoryForQuery = Run OutOfMemory
+abbrev pub search_fault_of : QueryFault → SearchFault
+search_fault_of (Syntax fault) = Query (Syntax fault)
+search_fault_of TooLarge = Query TooLarge
+search_fault_of NoMemoryForQuery = Run OutOfMemory

@@ -1,6 +1,6 @@
 //! Why a search doesn't end with a status.
 ghost use Rattle.std.specs.Prelude.{◌≡◌};
-ghost use Rattle.pg_search.specs.Faults.{fault_of_query};
+ghost use Rattle.pg_search.specs.Faults.{search_fault_of};
 ghost use Rattle.pg_search.specs.declared.fault.SearchFault.TheVariants.{Run};
 ghost use Rattle.pg_run.specs.declared.fault.RunFault.TheVariants.{OutOfMemory};
 
@@ -21,7 +21,7 @@ pub enum SearchFault {
 }
 
 impl From<QueryFault> for SearchFault {
-    ghost from_gives = { λ query fault. fault ≡ fault_of_query query };
+    ghost from_gives = { λ query fault. fault ≡ search_fault_of query };
 
     fn from(fault: QueryFault) -> SearchFault {
         match fault {

@@ -5,7 +5,7 @@ use Rattle.pg_pattern.specs.Tests.{has_hit}
 use Rattle.pg_pattern.specs.Parts.{parts_from}
 use Rattle.pg_selection.specs.Search.{SearchText, Search, Patterns, Split, ByLine, patterns, Kind, Fixed, Basic, Whole}
 use Rattle.pg_selection.specs.Search.{AreTreesOf, search_of, bounds_of, terminator_of}
-use Rattle.pg_selection.specs.Selection.{selects, parts}
+use Rattle.pg_selection.specs.Selection.{selects, parts_of_line}
 
 -- a text is split at each newline, a file gives its lines
 split_text : patterns (Split (codes "a" ++ 10 ∷ []) ∷ []) ≡ codes "a" ∷ [] ∷ []
@@ -77,7 +77,7 @@ zero_ends : terminator_of (record (plain [] Basic) { zero = true }) ≡ 0
 zero_ends = refl
 
 -- of several patterns the longest match from the first place, and then on from its end
-longest_part : parts (search_of (plain (Split (codes "ab" ++ 10 ∷ codes "b") ∷ []) Fixed)
+longest_part : parts_of_line (search_of (plain (Split (codes "ab" ++ 10 ∷ codes "b") ∷ []) Fixed)
     (Cat (byte 97) (byte 98) ∷ byte 98 ∷ [])) (codes "abb") ≡ (0, 2) ∷ (2, 3) ∷ []
 unfolding parts_from
 longest_part = refl

@@ -56,9 +56,9 @@ lists_complete [] = refl
 lists_complete (x ∷ xs) =
     and_from (same_patterns x x) (pointwise same_patterns xs xs) (patterns_equal.complete x) (lists_complete xs)
 
-text_with : (a b : SearchText) → a.kind ≡ b.kind → a.lists ≡ b.lists → a.fold ≡ b.fold → a.whole ≡ b.whole
+texts_agree : (a b : SearchText) → a.kind ≡ b.kind → a.lists ≡ b.lists → a.fold ≡ b.fold → a.whole ≡ b.whole
     → a.word ≡ b.word → a.invert ≡ b.invert → a.with_parts ≡ b.with_parts → a.zero ≡ b.zero → a ≡ b
-text_with a b kind lists fold whole word invert with_parts zero =
+texts_agree a b kind lists fold whole word invert with_parts zero =
     let K : Kind → SearchText = λ x. record a { kind = x } in
     let L : List Patterns → SearchText = λ x. record a { kind = b.kind; lists = x } in
     let F : Bool → SearchText = λ x. record b {
@@ -101,7 +101,7 @@ text_sound a b e =
     let invert = beq_sound a.invert b.invert p5.1 in
     let with_parts = beq_sound a.with_parts b.with_parts p6.1 in
     let zero = beq_sound a.zero b.zero p7.1 in
-    text_with a b kind lists fold whole word invert with_parts zero
+    texts_agree a b kind lists fold whole word invert with_parts zero
 
 text_complete : (a : SearchText) → same_text a a ≡ true
 unfolding same_text

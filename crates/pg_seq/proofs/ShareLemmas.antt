@@ -11,9 +11,9 @@ use Rattle.pg_selection.specs.Selection.{selects}
 use Rattle.pg_rows.specs.declared.format.Format.{Format}
 use Rattle.pg_rows.specs.Modes.{end_row, is_quiet, shows_rows}
 use Rattle.pg_base.specs.Entries.{Entry, Missed, Read, is_running}
-use Rattle.pg_rows.specs.Output.{is_bad, has_selected, has_separators, is_nothing, row, size_of, status, when}
+use Rattle.pg_rows.specs.Output.{is_bad, has_selected, has_separators, is_nothing, row, bytes_in, status, when}
 use Rattle.pg_rows.specs.Output.{count_row, file_rows, gap_text, line_rows, name_row, output, painted, part_rows}
-use Rattle.pg_rows.specs.Trail.{Trail, no_lines, step, keeps, after_kept, after_context, after_other, added}
+use Rattle.pg_rows.specs.Trail.{Trail, no_lines, step, keeps, after_kept, after_context, after_other, added_by_line}
 use Rattle.pg_rows.specs.Trail.{context_rows, gap_row, run_rows, with_offset}
 use Rattle.pg_rows.proofs.FoldLemmas.{rows_more, something, some_append, some_row, trail_is}
 use Rattle.pg_seq.specs.Shares.{has_groups, joined_output, joined_status}
@@ -51,12 +51,12 @@ module _ (q : Search) (format : Format) (name : List ℕ) where
       let selected = selects q m in
       let kept = keeps format t selected in
       let next = step format t selected m in
-      let front = context_rows format end name ((t.number + 1) - length t.window) (t.offset - size_of t.window)
+      let front = context_rows format end name ((t.number + 1) - length t.window) (t.offset - bytes_in t.window)
       t.window in
       let own = row format end name (t.number + 1) t.offset 58 (painted q format m) in
       let other = when (nat_lt 0 t.countdown) (row format end name (t.number + 1) t.offset 45 m) in
       ap (λ gap. cond kept (gap ++ (front ++ own)) other ++ run_rows q format name a next ms) (gap_same a b t e)
-      ∙ ap (λ xs. added format end name b t selected (painted q format m) m ++ xs)
+      ∙ ap (λ xs. added_by_line format end name b t selected (painted q format m) m ++ xs)
       (same_behind a b next ms (stays_shown t m e kept (nat_lt 0 t.countdown)))
 
   -- before the first line that is shown the row of hyphens stands where the run had a row
@@ -78,7 +78,7 @@ module _ (q : Search) (format : Format) (name : List ℕ) where
       own = row format end name (t.number + 1) t.offset 58 (painted q format m)
 
       front : List ℕ
-      front = context_rows format end name ((t.number + 1) - length t.window) (t.offset - size_of t.window) t.window
+      front = context_rows format end name ((t.number + 1) - length t.window) (t.offset - bytes_in t.window) t.window
 
       body : List ℕ
       body = front ++ own

@@ -30,7 +30,8 @@ use Rattle.pg_plan.specs.Plan.{Step, Opens, Announces, Ends, Misses, IsShaped, I
 use Rattle.pg_plan.specs.Plan.{is_open, announced, last_blocks, entries_of, with_bytes, with_end}
 use Rattle.std.specs.Arc.{arc_value}
 use Rattle.std.specs.Prelude.{Result, Ok, Err, OnOk, OnErr}
-use Rattle.pg_plan.specs.History.{Past, start, plan, planned, arrived, answer, answer_after, arrival_at, taken_of}
+use Rattle.pg_plan.specs.History.{Past, past_at_start, plan, planned, arrived, answer, answer_after, arrival_at}
+use Rattle.pg_plan.specs.History.{taken_of}
 use Rattle.pg_plan.specs.History.{taken_after, is_taken, is_block, all_taken, front_after, IsComplete, status_of}
 use Rattle.pg_seq.specs.Coming.{openings}
 use Rattle.pg_seq.proofs.ComingLemmas.{blocks_of}
@@ -39,7 +40,7 @@ use Rattle.pg_seq.specs.Slots.{place_of, at_place, slot_block, has_result, arriv
 use Rattle.pg_seq.specs.Slots.{slot_selects, result_selects, ready}
 use Rattle.pg_seq.specs.Ahead.{block_selects}
 use Rattle.pg_seq.specs.Buffer.{IsUnused, SameButRoom, OpensFile, Pushes, Puts, IsArrival}
-use Rattle.pg_seq.specs.Standing.{IsAfter, HasWritten, starts_of, opening_of}
+use Rattle.pg_seq.specs.Standing.{IsAfter, HandedOutSteps, starts_of, opening_of}
 use Rattle.pg_seq.proofs.SlotLemmas.{all_behind, cond_pos}
 use Rattle.pg_seq.proofs.FrontLemmas.{front_all, front_taken, all_map, ready_all}
 use Rattle.pg_seq.proofs.ComingLemmas.{behind_push, openings_push, announced_behind, parts_same}
@@ -134,17 +135,17 @@ module _ {A : Type 0} where
     pub printer : new.printer ≡ s.printer
 
   -- the printer stands where it stood
-  still : (s new : Assembler A) (past : Past) (w : HasWritten s past) → new.printer ≡ s.printer
+  still : (s new : Assembler A) (past : Past) (w : HandedOutSteps s past) → new.printer ≡ s.printer
       → IsAtCursor new.printer past.query past.format (cursor_of past.query past.format w.done)
   still s new past w same =
       let P : Printer A → Type 0 = λ p. IsAtCursor p past.query past.format (cursor_of past.query past.format w.done) in
       subst P (sym same) w.cursor
 
   -- nothing more was written, or a write has failed
-  rested_writes : (s new : Assembler A) (past : Past) (written : List ℕ) (failed : Bool) → HasWritten s past
+  rested_writes : (s new : Assembler A) (past : Past) (written : List ℕ) (failed : Bool) → HandedOutSteps s past
       → IsIdle s new
       → new.waiting.items ≡ s.waiting.items → (new.failed ≡ false → written ≡ past.written × (s.failed ≡ false))
-      → HasWritten new (record past { written = written; failed = failed })
+      → HandedOutSteps new (record past { written = written; failed = failed })
   rested_writes s new past written failed w i waiting f = record {
     done = w.done;
     coming = w.coming;
@@ -157,10 +158,10 @@ module _ {A : Type 0} where
   }
 
   -- one more step is to come
-  planned_writes : (s new : Assembler A) (past : Past) (step : Step) (w : HasWritten s past) → IsIdle s new
+  planned_writes : (s new : Assembler A) (past : Past) (step : Step) (w : HandedOutSteps s past) → IsIdle s new
       → new.failed ≡ s.failed → (total : ℕ) → total ≡ s.buffer.handed + length (blocks_of w.coming)
       → map opening_of new.waiting.items ≡ map opening_of s.waiting.items ++ openings total (step ∷ [])
-      → HasWritten new (planned past step)
+      → HandedOutSteps new (planned past step)
   planned_writes s new past step w i failed' total count waiting = record {
     done = w.done;
     coming = w.coming ++ step ∷ [];
@@ -227,7 +228,7 @@ module _ {A : Type 0} where
   -- the same plan and the same results, whatever was written
   pub rested : (s new : Assembler A) (past : Past) (written : List ℕ) (failed : Bool) → IsAfter s past → IsAlike s new
       → SameButRoom s.buffer new.buffer → failed ≡ new.failed
-      → HasWritten new (record past { written = written; failed = failed })
+      → HandedOutSteps new (record past { written = written; failed = failed })
       → IsAfter new (record past { written = written; failed = failed })
   rested s new past written failed h a k f w =
       let same : all s h ≡ h.gone ++ new.buffer.slots.items = ap (λ xs. h.gone ++ xs) (sym k.slots) in
@@ -648,7 +649,7 @@ module _ {A : Type 0} where
   pub new_stands : (s : Assembler A) (q : Search) (format : Format) → q.text ≡ arc_value s.selector
       → HasItsTrees q → s.format ≡ format → HasRoom format → s.running ≡ false → s.bad ≡ false → IsUnused s.buffer
       → s.waiting.items ≡ [] → s.printing ≡ false → IsAtCursor s.printer q format at_start → s.failed ≡ false
-      → IsAfter s (start q format)
+      → IsAfter s (past_at_start q format)
   new_stands s q format text trees format' room running bad unused waiting printing remembers failed =
       record {
         gone = [];

@@ -11,7 +11,7 @@ use Rattle.std.proofs.lemmas.List.Elements.{All-head, All-tail, All-push, All-we
 use Rattle.std.proofs.lemmas.List.FromFn.{length-map-range_with_len, get_or-map-range_with_len, map-range_with_len_more}
 use Rattle.std.proofs.lemmas.List.Sorted.{IsNonDecreasingBy-push}
 use Rattle.pg_seq.specs.Starts.{start_in, start_by, starts_by, IsFromNought, Cover, BecomesIfItCan, TakesIn, Lengthens}
-use Rattle.pg_seq.specs.Starts.{alone, Appends}
+use Rattle.pg_seq.specs.Starts.{alone, AddsFile}
 use Rattle.pg_seq.specs.declared.file_starts.Progression.{Progression}
 
 pub length_starts : (ps : List Progression) (files : ℕ) → length (starts_by ps files) ≡ files
@@ -251,7 +251,7 @@ lengthens goes ps i file here last longer end is =
     ]
 
 -- what one more file changes
-pub appended : (ps qs : List Progression) (files here : ℕ) → Cover ps files → here < 2 ^ 128 → Appends files here ps qs
+pub appended : (ps qs : List Progression) (files here : ℕ) → Cover ps files → here < 2 ^ 128 → AddsFile files here ps qs
     → Cover qs (files + 1) × (starts_by qs (files + 1) ≡ starts_by ps files ++ here ∷ [])
 appended ps qs files here cover small how = elim how [
   | inl longer ↦

@@ -12,13 +12,13 @@ abbrev pub has_groups : Format → Bool
 has_groups format = shows_rows format.mode && (not format.parts && has_separators format)
 
 -- what stands between the outputs of two shares: the row between groups where both have rows, of groups of lines
-abbrev pub between : Search → Format → List ℕ → List ℕ → List ℕ
-between q format first later =
+abbrev pub rows_between : Search → Format → List ℕ → List ℕ → List ℕ
+rows_between q format first later =
     when (has_groups format && (not (is_nothing first) && not (is_nothing later))) (gap_text format (terminator q))
 
 -- the outputs of two shares as that of one search
 abbrev pub joined_output : Search → Format → List ℕ → List ℕ → List ℕ
-joined_output q format first later = first ++ between q format first later ++ later
+joined_output q format first later = first ++ rows_between q format first later ++ later
 
 -- the statuses of two shares as that of one search: 2 where one is, else 0 where one is, else 1; but with -q 0 where
 -- one is

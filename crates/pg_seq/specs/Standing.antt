@@ -12,7 +12,8 @@ use Rattle.pg_rows.specs.Output.{HasRoom, is_bad, output}
 use Rattle.pg_rows.specs.Remembered.{IsAtCursor}
 use Rattle.pg_base.specs.Sink.{Stream, WritesAll, IsBeginning}
 use Rattle.pg_plan.specs.Plan.{Step, Opens, Announces, Ends, Misses, announced, IsPlan, MayFollow, is_open, entries_of}
-use Rattle.pg_plan.specs.History.{Past, start, plan, planned, arrived, answer, taken_of, is_taken, front_of, handed}
+use Rattle.pg_plan.specs.History.{Past, past_at_start, plan, planned, arrived, answer, taken_of, is_taken, front_of}
+use Rattle.pg_plan.specs.History.{handed}
 use Rattle.pg_plan.specs.History.{IsComplete, status_of}
 use Rattle.pg_plan.specs.Cursor.{cursor_of}
 use Rattle.pg_plan.specs.Drains.{Drained, drained}
@@ -39,7 +40,7 @@ opening_of opening = (opening.start, opening.prefix)
 
 -- What was written, and what is to come: the steps of the plan whose rows were written, the newest first, and those
 -- whose rows weren't, the oldest first.
-pub record HasWritten {A : Type 0} (s : Assembler A) (past : Past) : Type 0 where
+pub record HandedOutSteps {A : Type 0} (s : Assembler A) (past : Past) : Type 0 where
   pub done : List Step
   pub coming : List Step
   pub split : plan past ≡ behind done coming
@@ -67,7 +68,7 @@ pub record IsAfter {A : Type 0} (s : Assembler A) (past : Past) : Type 0 where
   pub results : AllByRecursion (IsResultOf past.query) (gone ++ s.buffer.slots.items)
   pub failed : past.failed ≡ s.failed
   pub selected : s.buffer.selected ≡ list_any (slot_selects past.query) gone
-  pub writes : HasWritten s past
+  pub writes : HandedOutSteps s past
 
 -- there is a past after which the sequencer stands
 abbrev pub HasPast : {A : Type 0} → Assembler A → Type 0
@@ -80,7 +81,7 @@ MayWrite s = (past : Past) × IsAfter s past × (s.failed ≡ false)
 -- nothing happened to the sequencer, and it is for the results of the query with this text
 abbrev pub IsAtStart : {A : Type 0} → SearchText → Format → Assembler A → Type 0
 IsAtStart text format s = (trees : List Pattern) → AreTreesOf text trees →
-    IsAfter s (start (search_of text trees) format)
+    IsAfter s (past_at_start (search_of text trees) format)
 
 -- the sequencer stands after this, and the step may follow
 abbrev pub IsReadyFor : {A : Type 0} → Assembler A → Past → Step → Type 0
@@ -108,8 +109,9 @@ abbrev pub MayKeep : {A : Type 0} → Assembler A → SearchedBlock → Type 0
 MayKeep s found = (past : Past) × IsAfter s past × (answer past found ≡ Taken)
 
 -- the result has arrived behind each past after which the sequencer stood and by which the result is taken
-abbrev pub Keeps : {A : Type 0} → (old new : Assembler A) → SearchedBlock → Type 0
-Keeps old new found = (past : Past) → IsAfter old past → answer past found ≡ Taken → IsAfter new (arrived past found)
+abbrev pub KeepsResult : {A : Type 0} → (old new : Assembler A) → SearchedBlock → Type 0
+KeepsResult old new found = (past : Past) → IsAfter old past → answer past found ≡ Taken
+    → IsAfter new (arrived past found)
 
 -- whether enough was read, by the files of the front
 abbrev pub TellsEnough : {A : Type 0} → Assembler A → Bool → Type 0
@@ -150,8 +152,8 @@ abbrev pub is_at_end : {A : Type 0} → Assembler A → Bool
 is_at_end s = is_last_block s.waiting.items s.running (length s.buffer.slots.items) s.buffer.handed
 
 -- how many steps may be left to hand out
-abbrev pub left : {A : Type 0} → Assembler A → ℕ
-left s = 2 * length s.waiting.items + (if s.printing then 1 else 0) + length s.buffer.slots.items
+abbrev pub steps_left : {A : Type 0} → Assembler A → ℕ
+steps_left s = 2 * length s.waiting.items + (if s.printing then 1 else 0) + length s.buffer.slots.items
 
 -- the rows of the next step were written
 pub record Advances {A : Type 0} (new : Assembler A) (past : Past) (before after : Stream) : Type 0 where
@@ -179,12 +181,12 @@ pub record TakesOneStep {A E : Type 0} (old new : Assembler A) (before after : S
   pub goes : (past : Past) → IsAfter old past → MatchResult result
       (λ more. MatchBool more (Advances new past before after) (HasNothingToDo new past before after))
       (λ _. BreaksOffInStep new past before after)
-  pub fewer : IfOk result (λ more. more ≡ true → left new < left old)
+  pub fewer : IfOk result (λ more. more ≡ true → steps_left new < steps_left old)
   pub same : new.failed ≡ old.failed
 
 -- The next file was opened in the printer at true. At false none waits, and all was written.
 pub record OpensNext {A : Type 0} (old new : Assembler A) (more : Bool) : Type 0 where
   pub opened : (past : Past) → IsAfter old past →
       MatchBool more (IsAfter new past) (HasWrittenAll past × IsAfter new past)
-  pub fewer : more ≡ true → left new < left old
+  pub fewer : more ≡ true → steps_left new < steps_left old
   pub same : new.failed ≡ old.failed

@@ -59,6 +59,6 @@ abbrev pub alone : ℕ → ℕ → Progression
 alone file here = record { start = here; step = 0; first = file }
 
 -- one more file that starts here: the last progression goes on to it, or where it can't, the file has one of its own
-abbrev pub Appends : ℕ → ℕ → List Progression → List Progression → Type 0
-Appends file here old new = Lengthens file here old new
+abbrev pub AddsFile : ℕ → ℕ → List Progression → List Progression → Type 0
+AddsFile file here old new = Lengthens file here old new
     ⊎ ((new ≡ old ++ alone file here ∷ []) × ((ps : List Progression) → Lengthens file here old ps → ⊥))

@@ -74,7 +74,7 @@ impl<A: Allocator> Assembler<A> {
     ghost use Rattle.pg_plan.specs.Plan.{Opens, Announces, Ends, Misses};
     ghost use Rattle.pg_plan.specs.History.{Past, planned, arrived, answer, IsComplete};
     ghost use Rattle.pg_seq.specs.Standing.{IsAfter, HasPast, IsAtStart, MayPlan, PlansAtOk, PlansAtOkIfReady};
-    ghost use Rattle.pg_seq.specs.Standing.{StaysAtErr, MayKeep, Keeps, Drains, TellsEnough, TellsStatus};
+    ghost use Rattle.pg_seq.specs.Standing.{StaysAtErr, MayKeep, KeepsResult, Drains, TellsEnough, TellsStatus};
     ghost use Rattle.pg_seq.specs.Standing.{is_at_end, MayWrite, TakesOneStep, OpensNext};
     ghost use Rattle.pg_seq.specs.Ahead.{is_over, MayLookFurther, LooksOneFurther};
 
@@ -171,7 +171,7 @@ impl<A: Allocator> Assembler<A> {
     /// Takes a result that is the first of its block.
     pub(crate) fn keep(&mut self, found: BlockResult<A>)
         requires { MayKeep self.old found }
-        ensures { Keeps self.old self.new found }
+        ensures { KeepsResult self.old self.new found }
     {
         self.buffer.put(found);
     }

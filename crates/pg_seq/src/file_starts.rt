@@ -2,7 +2,7 @@
 ghost use Rattle.std.specs.Prelude.{◌≡◌, ◌<◌, ◌≤◌, ◌^◌, ◌++◌, ◌∷◌, [], length, slice_get, OnOk, OnErr};
 ghost use Rattle.std.specs.List.{All};
 ghost use Rattle.std.specs.List.Sorted.{IsNonDecreasingBy, IsPartitionPoint};
-ghost use Rattle.pg_seq.specs.Starts.{start_in, BecomesIfItCan, TakesIn, Lengthens, Appends};
+ghost use Rattle.pg_seq.specs.Starts.{start_in, BecomesIfItCan, TakesIn, Lengthens, AddsFile};
 
 use std::alloc::{AllocError, Allocator, Global};
 use std::marker::Model;
@@ -104,7 +104,7 @@ fn append<A: Allocator>(
     start: u128,
 ) -> Result<(), AllocError>
     requires { All (λ p. p.first < file) progressions.old.items }
-    ensures ok { OnOk result (Appends file start progressions.old.items progressions.new.items) }
+    ensures ok { OnOk result (AddsFile file start progressions.old.items progressions.new.items) }
     ensures err { OnErr result (progressions.new.items ≡ progressions.old.items) }
 {
     if lengthen(progressions, file, start) {

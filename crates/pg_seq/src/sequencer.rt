@@ -44,7 +44,7 @@ impl<A: Allocator> Sequencer<A> {
     ghost use Rattle.pg_plan.specs.Plan.{Opens, Announces, Ends, Misses};
     ghost use Rattle.pg_plan.specs.History.{Past, planned, arrived, answer, IsComplete};
     ghost use Rattle.pg_seq.specs.Standing.{IsAfter, IsAtStart, MayPlan, PlansAtOk, PlansAtOkIfReady, StaysAtErr};
-    ghost use Rattle.pg_seq.specs.Standing.{MayKeep, Keeps, Drains, TellsEnough, TellsStatus};
+    ghost use Rattle.pg_seq.specs.Standing.{MayKeep, KeepsResult, Drains, TellsEnough, TellsStatus};
 
     /// A sequencer to which nothing happened, for the results of a query. It reserves the room for the
     /// lines before a selected one that are shown.
@@ -128,7 +128,7 @@ impl<A: Allocator> Sequencer<A> {
     /// announced and searched. Neither queries nor blocks are compared. It takes no memory.
     pub fn keep(&mut self, found: BlockResult<A>)
         requires { MayKeep self.old found }
-        ensures { Keeps self.old self.new found }
+        ensures { KeepsResult self.old self.new found }
     {
         self.assembler.keep(found);
     }

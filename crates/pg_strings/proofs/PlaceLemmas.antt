@@ -16,7 +16,8 @@ use Rattle.std.proofs.lemmas.List.Elements.{All-push, All-weaker}
 use Rattle.std.proofs.lemmas.Slice.Eq.{slice_eq-Decides}
 use Rattle.memchr.proofs.lemmas.MatchLemmas.{OccursAt-part, OccursAt-from_part}
 use Rattle.memchr.specs.Find.{OccursAt, Nowhere}
-use Rattle.pg_strings.specs.Keys.{items_of, key, home, Weighs, AreLong, AreFlagged}
+use Rattle.pg_strings.specs.Keys.{key, home, Weighs, AreLong, AreFlagged}
+use Rattle.pg_pattern.specs.Strings.{items_of}
 use Rattle.pg_pattern.specs.declared.bounds.Bounds.{Bounds}
 use Rattle.pg_pattern.specs.declared.bounds.Bounds.TheVariants.{Any}
 use Rattle.pg_strings.specs.Outcomes.{IsOutcome}

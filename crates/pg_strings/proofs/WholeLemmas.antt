@@ -22,7 +22,7 @@ use Rattle.pg_pattern.specs.Bounds.{MayEnd}
 use Rattle.pg_pattern.specs.declared.bounds.Bounds.{Bounds}
 use Rattle.pg_strings.specs.Outcomes.{IsLongestAt}
 use Rattle.pg_strings.specs.Sets.{StandsAs, SomeStandsAs, StandsSo}
-use Rattle.pg_strings.specs.Whole.{AreWhole, IsFlaggedAt, KeepsFlags, NoneLonger, flag_by, hash_behind, whole_home}
+use Rattle.pg_strings.specs.Whole.{AreIndexed, IsFlaggedAt, KeepsFlags, NoneLonger, flag_by, hash_behind, whole_home}
 use Rattle.pg_strings.proofs.WalkLemmas.{IsWalked}
 use Rattle.pg_strings.proofs.LongestLemmas.{longest_told}
 
@@ -51,7 +51,7 @@ prefix_more bytes place less more hash low is =
 
 -- lengths in another order
 pub whole_moved : (lengths moved first next : List ℕ) (strings : List (List ℕ)) → IsPermutation lengths moved
-    → AreWhole lengths first next strings → AreWhole moved first next strings
+    → AreIndexed lengths first next strings → AreIndexed moved first next strings
 whole_moved lengths moved first next strings permuted are = record {
   all = All-weaker (λ string. list_any (λ len. nat_eq len (length string)) lengths ≡ true)
       (λ string. list_any (λ len. nat_eq len (length string)) moved ≡ true)
@@ -88,9 +88,9 @@ LengthsOf before after more =
 
 -- the tables of one more string
 pub whole_more : (lengths lengths' first next first' next' : List ℕ) (strings : List (List ℕ)) (string : List ℕ) (h : ℕ)
-    → AreWhole lengths first next strings → LengthsOf lengths lengths' (length string) → h ≡ whole_home string
+    → AreIndexed lengths first next strings → LengthsOf lengths lengths' (length string) → h ≡ whole_home string
     → AreChains first' next' (map whole_home strings ++ (h ∷ []))
-    → AreWhole lengths' first' next' (strings ++ (string ∷ []))
+    → AreIndexed lengths' first' next' (strings ++ (string ∷ []))
 whole_more lengths lengths' first next first' next' strings string h before more is chains = record {
   all = All-push (λ s. list_any (λ len. nat_eq len (length s)) lengths' ≡ true) strings string
       (All-weaker (λ s. list_any (λ len. nat_eq len (length s)) lengths ≡ true)
@@ -165,7 +165,7 @@ NoneOf strings bounds bytes place lengths count = (i : ℕ) → i < count
     → StandsSo strings bounds bytes place (get_or lengths i 0) → ⊥
 
 -- the place of a string's length
-pub length_at : (lengths first next : List ℕ) (strings : List (List ℕ)) → AreWhole lengths first next strings
+pub length_at : (lengths first next : List ℕ) (strings : List (List ℕ)) → AreIndexed lengths first next strings
     → (k : ℕ) (string : List ℕ) → k < length strings
     → (i : ℕ) × (i < length lengths) × (get_or lengths i 0 ≡ length (get_or strings k string))
 length_at lengths first next strings whole k string less =
@@ -178,7 +178,7 @@ length_at lengths first next strings whole k string less =
 
 -- where none of any length stands, none stands
 pub none_at_all : (lengths first next : List ℕ) (strings : List (List ℕ)) (bounds : Bounds) (bytes : List ℕ)
-    (place : ℕ) → AreWhole lengths first next strings → NoneOf strings bounds bytes place lengths (length lengths)
+    (place : ℕ) → AreIndexed lengths first next strings → NoneOf strings bounds bytes place lengths (length lengths)
     → SomeStandsAs strings bounds bytes place → ⊥
 none_at_all lengths first next strings bounds bytes place whole none some =
     let at = length_at lengths first next strings whole some.0 some.1 some.2 in
@@ -301,7 +301,7 @@ longest_later strings bounds bytes place lengths at longest rises none before = 
 
 -- what stands is no longer than the longest of all lengths
 pub none_longer : (lengths first next : List ℕ) (strings : List (List ℕ)) (bounds : Bounds) (bytes : List ℕ)
-    (place longest : ℕ) → AreWhole lengths first next strings
+    (place longest : ℕ) → AreIndexed lengths first next strings
     → IsLongestOf strings bounds bytes place lengths (length lengths) longest
     → All (λ string. StandsAs bounds bytes place string → length string ≤ longest) strings
 none_longer lengths first next strings bounds bytes place longest whole found k d less stands =
@@ -317,7 +317,7 @@ none_longer lengths first next strings bounds bytes place longest whole found k 
 
 -- so that is the longest string that stands, if any does
 pub longest_of_all : (lengths first next : List ℕ) (strings : List (List ℕ)) (bounds : Bounds) (bytes : List ℕ)
-    (place longest : ℕ) → AreWhole lengths first next strings → All (λ string. 1 ≤ length string) strings
+    (place longest : ℕ) → AreIndexed lengths first next strings → All (λ string. 1 ≤ length string) strings
     → IsLongestOf strings bounds bytes place lengths (length lengths) longest → (result : Option ℕ)
     → MatchOption result (longest ≡ 0) (λ n. (0 < n) × (n ≡ longest)) → IsLongestAt strings bounds bytes place result
 longest_of_all lengths first next strings bounds bytes place longest whole some found result told =

@@ -4,10 +4,6 @@ use Rattle.std.specs.Prelude.{slice_index_or, Vec}
 use Rattle.std.specs.List.{All}
 use Rattle.std.specs.Int.{w64, from_le_bytes}
 
--- the bytes of a string
-abbrev pub items_of : {A : Type 0} → Vec ℕ A → List ℕ
-items_of string = string.items
-
 -- the key of the first eight bytes; where there are fewer, of these and zeros
 abbrev pub key : ℕ → List ℕ → ℕ
 key factor bytes = (from_le_bytes w64 bytes * factor) % 18446744073709551616 / 140737488355328

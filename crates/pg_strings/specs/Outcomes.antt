@@ -3,7 +3,7 @@ use Rattle.std.specs.Prelude.{◌≡◌, ℕ, ◌+◌, ◌-◌, ◌*◌, ◌≤�
 use Rattle.std.specs.List.{All}
 use Rattle.memchr.specs.Find.{Nowhere, NoneBefore}
 use Rattle.pg_pattern.specs.declared.bounds.Bounds.{Bounds}
-use Rattle.pg_strings.specs.Keys.{items_of}
+use Rattle.pg_pattern.specs.Strings.{items_of}
 use Rattle.pg_strings.specs.Sets.{StandsAs, SomeStandsAs, StandsSo}
 use Rattle.pg_strings.specs.declared.set.StringSet.{StringSet}
 use Rattle.pg_strings.specs.declared.outcome.Outcome.{Outcome}

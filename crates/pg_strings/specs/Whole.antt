@@ -48,14 +48,14 @@ pub record IsPrefixHash (bytes : List ℕ) (place : ℕ) (prefix : PrefixHash) :
 
 -- The length of each string is among these, which cost no more to look at than the strings; and the strings are in
 -- chains by all their bytes.
-pub record AreWhole (lengths first next : List ℕ) (strings : List (List ℕ)) : Type 0 where
+pub record AreIndexed (lengths first next : List ℕ) (strings : List (List ℕ)) : Type 0 where
   pub all : All (λ string. list_any (λ len. nat_eq len (length string)) lengths ≡ true) strings
   pub worth : sum_by (λ len. 1 + len) lengths ≤ work strings
   pub linked : AreChains first next (map whole_home strings)
 
 -- the lengths and chains are those of these strings
 abbrev pub HasChainsOf : {A : Type 0} → WholeStrings A → List (List ℕ) → Type 0
-HasChainsOf whole strings = AreWhole whole.lengths.items whole.chains.first.items whole.chains.next.items strings
+HasChainsOf whole strings = AreIndexed whole.lengths.items whole.chains.first.items whole.chains.next.items strings
 
 -- the tables are those of these strings
 pub record IsWholeOf {A : Type 0} (whole : WholeStrings A) (strings : List (List ℕ)) : Type 0 where

@@ -1,7 +1,8 @@
 //! How a set is made of its strings.
 ghost use Rattle.std.specs.Prelude.{◌≡◌, ◌≤◌, length, map, IfOk};
 ghost use Rattle.std.specs.List.{All};
-ghost use Rattle.pg_strings.specs.Keys.{AreLong, items_of};
+ghost use Rattle.pg_strings.specs.Keys.{AreLong};
+ghost use Rattle.pg_pattern.specs.Strings.{items_of};
 ghost use Rattle.pg_strings.specs.Outcomes.{strings_of};
 ghost use Rattle.pg_strings.specs.Whole.{KnowsWhole};
 

@@ -1,6 +1,7 @@
 //! Many strings, prepared to be looked for together.
 ghost use Rattle.std.specs.Prelude.{◌≡◌, length, map};
-ghost use Rattle.pg_strings.specs.Keys.{AreChains, AreFlagged, AreLong, Weighs, home, items_of};
+ghost use Rattle.pg_strings.specs.Keys.{AreChains, AreFlagged, AreLong, Weighs, home};
+ghost use Rattle.pg_pattern.specs.Strings.{items_of};
 ghost use Rattle.pg_strings.specs.Short.{KnowsShort};
 ghost use Rattle.pg_strings.specs.Whole.{KnowsWhole};
 

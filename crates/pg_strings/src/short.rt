@@ -1,6 +1,6 @@
 //! The strings of one and two bytes, which have tables of their own.
 ghost use Rattle.std.specs.Prelude.{◌≡◌, ℕ, ◌+◌, ◌*◌, ◌<◌, ◌≤◌, ◌++◌, ◌∷◌, [], List, false, true, length, map, IfOk};
-ghost use Rattle.pg_strings.specs.Keys.{items_of};
+ghost use Rattle.pg_pattern.specs.Strings.{items_of};
 ghost use Rattle.pg_strings.specs.Short.{AreLonger, AreTables, IsLongestShort, KnowsShort};
 
 use crate::compare::fits;

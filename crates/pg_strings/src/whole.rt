@@ -1,6 +1,6 @@
 //! Strings that are known by all their bytes, for lists of which many begin alike.
 ghost use Rattle.std.specs.Prelude.{◌≡◌, ◌+◌, ◌<◌, ◌≤◌, ◌++◌, ◌∷◌, [], List, ℕ, length, map, IfOk, IfSome, OnOk};
-ghost use Rattle.pg_strings.specs.Keys.{items_of};
+ghost use Rattle.pg_pattern.specs.Strings.{items_of};
 ghost use Rattle.std.specs.List.{All};
 ghost use Rattle.pg_strings.specs.Whole.{HasChainsOf, IsFlaggedAt, IsPrefixHash, IsWholeOf, KeepsFlags};
 ghost use Rattle.pg_strings.specs.Whole.{flag_by, home_by, hash_behind};

@@ -10,7 +10,7 @@ use Rattle.pg_grammar.specs.Brackets.{OpensBracket, negates}
 use Rattle.pg_grammar.specs.Brackets.{end_point, is_dash, member, only_byte}
 use Rattle.pg_syntax.specs.BracketReading.{element_at, enclosed_at, enclosed_in, until, range_of}
 use Rattle.pg_grammar.specs.Places.{StandsInBracket, HasRange, IsBadElement, IsBadRange}
-use Rattle.pg_syntax.specs.BracketPlaces.{EndsRange, Holds, GoesOn}
+use Rattle.pg_syntax.specs.BracketPlaces.{EndsRange, HasElement, ElementFollows}
 use Rattle.pg_syntax.specs.BracketViews as V
 use Rattle.pg_syntax.specs.declared.element.Element.{Element as Read}
 use Rattle.pg_syntax.specs.declared.bracket.Mode.{Mode}
@@ -89,7 +89,7 @@ no_symbol e mark content h m n = ap member h ∙ (ap (λ k. member (Enclosed k c
 
 -- an element ends a range
 pub ends_range : (text : List ℕ) (bracket start at : ℕ) (a b : Read) (rest : List ℕ)
-    → Holds text bracket start a (45 ∷ drop at text) → Holds text bracket at b rest → V.element b ≢ Single 93
+    → HasElement text bracket start a (45 ∷ drop at text) → HasElement text bracket at b rest → V.element b ≢ Single 93
     → HasRange text bracket start (V.element a) (V.element b) rest
 ends_range text bracket start at a b rest h k n = record {
   inside = h.inside;
@@ -101,7 +101,7 @@ ends_range text bracket start at a b rest h k n = record {
 
 -- a range can't go on with another one
 pub ranged_on : (text : List ℕ) (bracket start at : ℕ) (b : Read) (rest : List ℕ)
-    → EndsRange text bracket start (45 ∷ drop at text) → Holds text bracket at b rest → V.element b ≢ Single 93
+    → EndsRange text bracket start (45 ∷ drop at text) → HasElement text bracket at b rest → V.element b ≢ Single 93
     → IsBadRange text bracket start
 ranged_on text bracket start at b rest (inl h) k n = (
   h.0,
@@ -120,7 +120,7 @@ ranged_on text bracket start at b rest (inl h) k n = (
 ranged_on text bracket start at b rest (inr h) k n = h
 
 pub behind_dash : (mode : Mode) (text : List ℕ) (bracket start at : ℕ) (a b : Read) (rest : List ℕ)
-    → mode ≡ M.Dashed start a → GoesOn text bracket mode at b rest → V.element b ≢ Single 93
+    → mode ≡ M.Dashed start a → ElementFollows text bracket mode at b rest → V.element b ≢ Single 93
 behind_dash mode text bracket start at a b rest m g = other g.inner
   where
     other : (mode ≡ M.Fresh) ⊎ (V.element b ≢ Single 93) → V.element b ≢ Single 93
@@ -128,7 +128,7 @@ behind_dash mode text bracket start at a b rest m g = other g.inner
     other (inr n) = n
 
 pub behind_range : (mode : Mode) (text : List ℕ) (bracket start at : ℕ) (b : Read) (rest : List ℕ)
-    → mode ≡ M.Barred start → GoesOn text bracket mode at b rest → V.element b ≢ Single 93
+    → mode ≡ M.Barred start → ElementFollows text bracket mode at b rest → V.element b ≢ Single 93
 behind_range mode text bracket start at b rest m g = other g.inner
   where
     other : (mode ≡ M.Fresh) ⊎ (V.element b ≢ Single 93) → V.element b ≢ Single 93
@@ -154,7 +154,7 @@ inner first e mode (inr f) (inr n) = inr n
 
 -- an enclosed element that stands for no bytes
 pub bad_element : (text : List ℕ) (bracket at : ℕ) (a : Read) (rest : List ℕ) (mark : ℕ) (content : List ℕ)
-    → V.element a ≡ Enclosed mark content → Holds text bracket at a rest → member (V.element a) ≡ None
+    → V.element a ≡ Enclosed mark content → HasElement text bracket at a rest → member (V.element a) ≡ None
     → IsBadElement mark text bracket at
 bad_element text bracket at a rest mark content e h n = record {
   content = content;

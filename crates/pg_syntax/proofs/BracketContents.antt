@@ -3,13 +3,13 @@ use Rattle.std.proofs.Common.{ℕ, ◌≡◌, ◌<◌, ◌≤◌, ◌+◌, ◌-�
 use Rattle.std.proofs.Common.{drop, get_or, Some, None, refl, sym, ap, add-one, ◌∙◌, append_assoc, arith, length-drop}
 use Rattle.std.proofs.lemmas.List.{take_more, get_or-drop}
 use Rattle.std.proofs.Math.Seq.{drop-cons}
-use Rattle.pg_syntax.specs.BracketReading.{Content, with_byte, until}
+use Rattle.pg_syntax.specs.BracketReading.{BracketContent, with_byte, until}
 
-abbrev pub with_front : List ℕ → Content → Content
+abbrev pub with_front : List ℕ → BracketContent → BracketContent
 with_front w None = None
 with_front w (Some x) = Some (w ++ x.0, x.1)
 
-pub front_more : (w : List ℕ) (a : ℕ) (o : Content) → with_front w (with_byte a o) ≡ with_front (w ++ a ∷ []) o
+pub front_more : (w : List ℕ) (a : ℕ) (o : BracketContent) → with_front w (with_byte a o) ≡ with_front (w ++ a ∷ []) o
 front_more w a None = refl
 front_more w a (Some x) = ap (λ t. Some (t, x.1)) (sym (append_assoc w (a ∷ []) x.0))
 

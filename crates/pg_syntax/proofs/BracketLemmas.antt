@@ -7,8 +7,9 @@ use Rattle.std.proofs.lemmas.Bool.Decides.{nat_tests}
 use Rattle.pg_bytes.specs.Sets.{Bytes, empty, union, between, complement}
 use Rattle.pg_pattern.specs.Patterns.{folded}
 use Rattle.pg_grammar.specs.Brackets.{Element, Single, Enclosed, opens, has_end, Inside, member, end_point, is_dash}
-use Rattle.pg_grammar.specs.Brackets.{ranges, Members, negates, IsBracket}
-use Rattle.pg_syntax.specs.BracketReading.{Content, with_byte, until, enclosed_in, enclosed_at, Elements, with_element}
+use Rattle.pg_grammar.specs.Brackets.{ranges, MembersOf, negates, IsBracket}
+use Rattle.pg_syntax.specs.BracketReading.{BracketContent, with_byte, until, enclosed_in, enclosed_at, Elements}
+use Rattle.pg_syntax.specs.BracketReading.{with_element}
 use Rattle.pg_syntax.specs.BracketReading.{inside_at, unite, range_of, Fresh, Held, Ranged, members_of, set_of, same}
 use Rattle.pg_syntax.specs.BracketReading.{bracket}
 use Rattle.pg_grammar.specs.Brackets as B
@@ -25,18 +26,18 @@ until_again c (a ∷ b ∷ w) rest n h =
     let k = or_parts (eqb a c && eqb b 93) (has_end c (b ∷ w)) h in
     chosen_false _ _ _ _ k.0 (ap (with_byte a) (until_again c (b ∷ w) rest n k.1))
 
-abbrev content_or : List ℕ → Content → List ℕ
+abbrev content_or : List ℕ → BracketContent → List ℕ
 content_or d None = d
 content_or d (Some x) = x.0
 
-abbrev rest_or : List ℕ → Content → List ℕ
+abbrev rest_or : List ℕ → BracketContent → List ℕ
 rest_or d None = d
 rest_or d (Some x) = x.1
 
-no_content : {A : Type 0} (x : List ℕ × List ℕ) → ◌≡◌ {A = Content} None (Some x) → A
+no_content : {A : Type 0} (x : List ℕ × List ℕ) → ◌≡◌ {A = BracketContent} None (Some x) → A
 no_content x e = absurd (differ e)
   where
-    differ : ◌≡◌ {A = Content} None (Some x) → ⊥
+    differ : ◌≡◌ {A = BracketContent} None (Some x) → ⊥
     differ e = cc
 
 pub until_takes : (c : ℕ) (t w rest : List ℕ) → until c t ≡ Some (w, rest) → (t ≡ w ++ (c ∷ 93 ∷ rest))
@@ -48,7 +49,7 @@ until_takes c (a ∷ b ∷ t) w rest e = elim (chosen (eqb a c && eqb b 93) _ _ 
   | inr h ↦ later h.0 (until c (b ∷ t)) refl h.1 (until_takes c (b ∷ t))
 ]
   where
-    ended : (eqb a c ≡ true) × (eqb b 93 ≡ true) → ◌≡◌ {A = Content} (Some ([], t)) (Some (w, rest))
+    ended : (eqb a c ≡ true) × (eqb b 93 ≡ true) → ◌≡◌ {A = BracketContent} (Some ([], t)) (Some (w, rest))
         → (a ∷ b ∷ t ≡ w ++ (c ∷ 93 ∷ rest)) × (has_end c w ≡ false)
     ended k f =
         let we = ap (content_or []) f in
@@ -63,7 +64,7 @@ until_takes c (a ∷ b ∷ t) w rest e = elim (chosen (eqb a c && eqb b 93) _ _ 
     more_end (y ∷ w) r te n he = let by : b ≡ y = cc in let n' : (eqb a c && eqb y 93) ≡ false =
         subst (λ z. (eqb a c && eqb z 93) ≡ false) by n in rw (n', he) refl
 
-    later : (eqb a c && eqb b 93) ≡ false → (o : Content) → until c (b ∷ t) ≡ o → with_byte a o ≡ Some (w, rest)
+    later : (eqb a c && eqb b 93) ≡ false → (o : BracketContent) → until c (b ∷ t) ≡ o → with_byte a o ≡ Some (w, rest)
         → ((w rest : List ℕ) → until c (b ∷ t) ≡ Some (w, rest) → (b ∷ t ≡ w ++ (c ∷ 93 ∷ rest))
         × (has_end c w ≡ false)) → (a ∷ b ∷ t ≡ w ++ (c ∷ 93 ∷ rest)) × (has_end c w ≡ false)
     later n None g f ih = no_content _ f
@@ -163,7 +164,7 @@ inside_takes (suc n) first (b ∷ t) es rest e = elim (chosen (eqb b 93 && not f
         whole y z w r ue ze = rw (eqb-true b 91 k.0, ue, ze)
             (ap (λ q. 91 ∷ c ∷ q) (sym (append_assoc y (c ∷ 93 ∷ w) r)))
 
-        go : (o : Content) → until c u ≡ o
+        go : (o : BracketContent) → until c u ≡ o
             → option_and_then (λ (e, r). with_element e (inside_at n false r)) (enclosed_in c o) ≡ Some (es, rest)
             → InsideTaken first (b ∷ c ∷ u) es rest
         go None g h = no_elements _ h
@@ -195,7 +196,7 @@ ranged_is (d ∷ []) r = same_both (is_dash d)
     same_both false = refl
 ranged_is (d ∷ b ∷ es) r = chosen_false _ _ _ _ r refl
 
-members_again : {es : List Element} {s : Bytes} → Members es s → members_of Fresh es ≡ Some s
+members_again : {es : List Element} {s : Bytes} → MembersOf es s → members_of Fresh es ≡ Some s
 members_again B.none = refl
 members_again (B.alone {a = a} {es = es} {s = s} {t = t} m r h) = held_is a es r ∙ rw (m, members_again h) refl
 members_again (B.range {a = a} {d = d} {b = b} {es = es} {m = m} {n = n} {t = t} x ea eb le r h) =
@@ -234,17 +235,17 @@ ranged_stops [] s e = refl
 ranged_stops (d ∷ []) s e = refl
 ranged_stops (d ∷ b ∷ es) s e = elim (chosen (is_dash d) _ _ _ e) [ inl h ↦ no_set s h.1 | inr h ↦ h.0 ]
 
-members_take : (k : ℕ) (es : List Element) (s : Bytes) → length es ≤ k → members_of Fresh es ≡ Some s → Members es s
-members_take k [] s l e = let f : empty ≡ s = cc in subst (Members []) f B.none
+members_take : (k : ℕ) (es : List Element) (s : Bytes) → length es ≤ k → members_of Fresh es ≡ Some s → MembersOf es s
+members_take k [] s l e = let f : empty ≡ s = cc in subst (MembersOf []) f B.none
 members_take zero (a ∷ es) s l e = absurd (omega arith)
 members_take (suc k) (a ∷ es) s l e = go es (ranges es) refl (omega arith) e (members_take k)
   where
     go : (es : List Element) (b : Bool) → ranges es ≡ b → length es ≤ k → members_of (Held a) es ≡ Some s
-        → ((es : List Element) (s : Bytes) → length es ≤ k → members_of Fresh es ≡ Some s → Members es s)
-        → Members (a ∷ es) s
+        → ((es : List Element) (s : Bytes) → length es ≤ k → members_of Fresh es ≡ Some s → MembersOf es s)
+        → MembersOf (a ∷ es) s
     go es false r l e ih =
         let (x, y, ax, ey, u) = unite_is (member a) (members_of Fresh es) s (sym (held_is a es r) ∙ e) in
-        subst (Members (a ∷ es)) u (B.alone ax r (ih es y l ey))
+        subst (MembersOf (a ∷ es)) u (B.alone ax r (ih es y l ey))
     go [] true r l e ih = absurd (false≢true r)
     go (d ∷ []) true r l e ih = absurd (false≢true r)
     go (d ∷ b ∷ es) true r l e ih =
@@ -252,7 +253,7 @@ members_take (suc k) (a ∷ es) s l e = go es (ranges es) refl (omega arith) e (
         (sym (chosen_true _ _ _ _ r refl) ∙ e) in
         let (m, n, am, bn, le, w) = range_is (end_point a) (end_point b) x ax in
         let stop = ranged_stops es y ey in
-        subst (Members (a ∷ d ∷ b ∷ es)) (ap (λ z. union z y) w ∙ u)
+        subst (MembersOf (a ∷ d ∷ b ∷ es)) (ap (λ z. union z y) w ∙ u)
         (B.range r am bn le stop (ih es y (omega arith) (sym (ranged_is es stop) ∙ ey)))
 
 pub bracket_again : (fold : Bool) (t : List ℕ) (s : Bytes) (rest : List ℕ) → IsBracket fold t s
@@ -277,11 +278,11 @@ bracket_front fold t s (B.negated {t = u} i m) = (94 ∷ u, refl)
 
 set_taken : (fold : Bool) (f : Bytes → Bytes) (n : ℕ) (t : List ℕ) (s : Bytes) (rest : List ℕ)
     → set_of fold f (inside_at n true t) ≡ Some (s, rest) → (w : List ℕ) × (es : List Element) × (set : Bytes)
-    × (t ≡ w ++ rest) × Inside true w es × Members es set × (f (folded fold set) ≡ s)
+    × (t ≡ w ++ rest) × Inside true w es × MembersOf es set × (f (folded fold set) ≡ s)
 set_taken fold f n t s rest e = go (inside_at n true t) refl e
   where
     Result : Type 0
-    Result = (w : List ℕ) × (es : List Element) × (set : Bytes) × (t ≡ w ++ rest) × Inside true w es × Members es set
+    Result = (w : List ℕ) × (es : List Element) × (set : Bytes) × (t ≡ w ++ rest) × Inside true w es × MembersOf es set
         × (f (folded fold set) ≡ s)
 
     differ : ◌≡◌ {A = Option (Bytes × List ℕ)} None (Some (s, rest)) → ⊥

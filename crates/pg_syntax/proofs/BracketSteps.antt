@@ -7,7 +7,7 @@ use Rattle.std.proofs.Math.Path.{fun_ext}
 use Rattle.pg_bytes.specs.Sets.{Bytes, union, empty, between}
 use Rattle.pg_grammar.specs.Brackets.{Element, member, end_point, is_dash, Single, opens}
 use Rattle.pg_syntax.specs.BracketReading.{unite, range_of, Mode, Fresh, Held, Dashed, Ranged, Barred, members_of}
-use Rattle.pg_syntax.specs.BracketReading.{Reading, read, add, go, put_in, put, finish_in, finish, Elements}
+use Rattle.pg_syntax.specs.BracketReading.{Reading, read, add_element, go, put_in, put, finish_in, finish, Elements}
 use Rattle.pg_syntax.specs.BracketReading.{with_element, inside_at, enclosed_at, element_at, rest_of}
 use Rattle.std.proofs.Math.Bool.{or-false}
 
@@ -27,7 +27,7 @@ reads bad set rest = cond bad None (unite (Some set) rest)
 
 -- a part is added
 added : (bad : Bool) (s : Bytes) (o rest : Option Bytes) (r : Reading) (m : Mode) (es : List Element) → r.bad ≡ bad
-    → r.set ≡ s → members_of m es ≡ rest → reads bad s (unite o rest) ≡ read (add r o m) es
+    → r.set ≡ s → members_of m es ≡ rest → reads bad s (unite o rest) ≡ read (add_element r o m) es
 added bad s None rest r m es b e h = none bad
   where
     none : (bad : Bool) → reads bad s None ≡ None
@@ -56,7 +56,7 @@ put_mode : (r : Reading) (m : Mode) (a : Element) (es : List Element)
 put_mode r Fresh a es = refl
 put_mode r (Held a) d es =
     over r.bad r.set (is_dash d) (members_of (Dashed a d) es) (unite (member a) (members_of (Held d) es))
-    ∙ choose (λ x. read x es) (is_dash d) (go r (Dashed a d)) (add r (member a) (Held d)) _ _ refl
+    ∙ choose (λ x. read x es) (is_dash d) (go r (Dashed a d)) (add_element r (member a) (Held d)) _ _ refl
     (added r.bad r.set (member a) (members_of (Held d) es) r (Held d) es refl refl refl)
 put_mode r (Dashed a d) b es = added r.bad r.set (range_of (end_point a) (end_point b))
     (members_of Ranged es) r Ranged es refl refl refl
@@ -78,7 +78,7 @@ whole true s = refl
 whole false s = ap Some (union_empty s)
 
 mode_add : (r : Reading) (o : Option Bytes) (m : Mode) (es : List Element)
-    → read (add r o m) es ≡ reads (add r o m).bad (add r o m).set (members_of m es)
+    → read (add_element r o m) es ≡ reads (add_element r o m).bad (add_element r o m).set (members_of m es)
 mode_add r None m es = refl
 mode_add r (Some s) m es = refl
 
@@ -86,16 +86,17 @@ finish_mode : (r : Reading) (m : Mode) → reads r.bad r.set (members_of m []) �
     (let s = finish_in r m in cond s.bad None (Some s.set))
 finish_mode r Fresh = whole r.bad r.set
 finish_mode r (Held a) = added r.bad r.set (member a) (Some empty) r Fresh [] refl refl refl
-    ∙ (mode_add r (member a) Fresh [] ∙ whole (add r (member a) Fresh).bad (add r (member a) Fresh).set)
+    ∙ (mode_add r (member a) Fresh [] ∙ whole (add_element r (member a) Fresh).bad (add_element r (member a) Fresh).set)
 finish_mode r (Dashed a d) =
-    let s = add r (member a) Fresh in
+    let s = add_element r (member a) Fresh in
     let step : reads r.bad r.set (unite (member a) (unite (member d) (Some empty))) ≡ reads s.bad s.set
     (unite (member d) (Some empty)) = two r.bad r.set (member a) (unite (member d) (Some empty)) r refl refl in
     step ∙ (added s.bad s.set (member d) (Some empty) s Fresh [] refl refl refl
-    ∙ (mode_add s (member d) Fresh [] ∙ whole (add s (member d) Fresh).bad (add s (member d) Fresh).set))
+    ∙ (mode_add s (member d) Fresh [] ∙ whole (add_element s (member d) Fresh).bad (add_element s (member d)
+    Fresh).set))
   where
     two : (bad : Bool) (s : Bytes) (o rest : Option Bytes) (r : Reading) → r.bad ≡ bad → r.set ≡ s
-        → reads bad s (unite o rest) ≡ reads (add r o Fresh).bad (add r o Fresh).set rest
+        → reads bad s (unite o rest) ≡ reads (add_element r o Fresh).bad (add_element r o Fresh).set rest
     two true s None rest r b e = refl
     two false s None rest r b e = refl
     two bad s (Some t) rest r b e = some bad rest
@@ -107,7 +108,7 @@ finish_mode r (Dashed a d) =
         some false (Some u) = ap Some (sym (union_assoc s t u))
 finish_mode r Ranged = whole r.bad r.set
 finish_mode r (Barred d) = added r.bad r.set (member d) (Some empty) r Fresh [] refl refl refl
-    ∙ (mode_add r (member d) Fresh [] ∙ whole (add r (member d) Fresh).bad (add r (member d) Fresh).set)
+    ∙ (mode_add r (member d) Fresh [] ∙ whole (add_element r (member d) Fresh).bad (add_element r (member d) Fresh).set)
 
 pub finish_is : (r : Reading) → read r [] ≡ finish r
 finish_is r = finish_mode r r.mode

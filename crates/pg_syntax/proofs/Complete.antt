@@ -16,7 +16,8 @@ use Rattle.pg_grammar.specs.Grammar as G
 use Rattle.pg_grammar.specs.Grammar.{opening, closing, brace, unbrace, is_escaped, IsOrdinary, Mark, Atom, Item, Piece}
 use Rattle.pg_grammar.specs.Grammar.{Seq, Body}
 use Rattle.pg_syntax.specs.Machine.{Level, fresh, cat, last, whole, State, start, with_item, with_anchor, Token, Part}
-use Rattle.pg_syntax.specs.Machine.{Anchor, Repeat, Open, Close, Bar, add, opened, popped, barred, grouped, after, ends}
+use Rattle.pg_syntax.specs.Machine.{Anchor, Repeat, Open, Close, Bar, add, with_group, popped, barred, grouped, after}
+use Rattle.pg_syntax.specs.Machine.{ends}
 use Rattle.pg_syntax.specs.Machine.{repeat_token, basic_escape, extended_escape, basic_token, extended_token, token}
 use Rattle.pg_syntax.proofs.Reading.{next, Completes, done, step}
 use Rattle.pg_grammar.specs.declared.syntax.Syntax.{Syntax}
@@ -350,7 +351,7 @@ at_anchor Basic before b p l = record {
     not_empty e = let f : b ∷ [] ≡ [] = append_empty before (b ∷ []) e in cc
 
 opens : (s : State) (d : ℕ) → length s.outer ≡ d → d < 100
-    → opened s ≡ Some (record { outer = s.level ∷ s.outer; level = fresh })
+    → with_group s ≡ Some (record { outer = s.level ∷ s.outer; level = fresh })
 opens s d e lt = grind (arith, nat_tests)
 
 module _ (syntax : Syntax) (fold : Bool) where

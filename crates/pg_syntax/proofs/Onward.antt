@@ -8,7 +8,8 @@ use Rattle.pg_pattern.specs.Patterns.{Pattern, Set, End, folded}
 use Rattle.pg_grammar.specs.Grammar.{Body}
 use Rattle.pg_grammar.specs.Places.{closings, LeavesOpen, LeavesEmpty}
 use Rattle.pg_syntax.specs.Machine.{Level, cat, alt, last, whole, State, start, with_item, Token, Part, Anchor}
-use Rattle.pg_syntax.specs.Machine.{Open, add, popped, grouped, after, Found, ends, basic_token, extended_token, token}
+use Rattle.pg_syntax.specs.Machine.{Open, add, popped, grouped, after, NextToken, ends, basic_token, extended_token}
+use Rattle.pg_syntax.specs.Machine.{token}
 use Rattle.pg_syntax.proofs.Reading.{next, Completes, done, step}
 use Rattle.pg_grammar.specs.declared.syntax.Syntax.{Syntax}
 use Rattle.pg_grammar.specs.declared.syntax.Syntax.TheVariants.{Basic, Extended}
@@ -40,11 +41,11 @@ dollar_last : (fold : Bool) (s : State) → basic_token fold s 36 [] ≡ Some (A
 unfolding basic_token
 dollar_last fold s = refl
 
-abbrev pub found_token : Found → Token
+abbrev pub found_token : NextToken → Token
 found_token None = Open
 found_token (Some x) = x.0
 
-abbrev found_rest : Found → List ℕ
+abbrev found_rest : NextToken → List ℕ
 found_rest None = []
 found_rest (Some x) = x.1
 
@@ -57,7 +58,7 @@ dollar_takes fold s u k rest e = go (ends u) e
     item : Token
     item = Part (Set (folded fold (one 36)))
 
-    go : (x : Bool) → cond {A = Found} x (Some (Anchor End, u)) (Some (item, u)) ≡ Some (k, rest) → u ≡ rest
+    go : (x : Bool) → cond {A = NextToken} x (Some (Anchor End, u)) (Some (item, u)) ≡ Some (k, rest) → u ≡ rest
     go true e = ap found_rest e
     go false e = ap found_rest e
 
@@ -82,7 +83,7 @@ token_more syntax fold s b u m k rest e = by_syntax syntax u ((token_stays synta
     same x u w h = ap (token x fold s) (ap (λ y. y ++ 97 ∷ m) w.is ∙ append_assoc w.bytes rest (97 ∷ m))
         ∙ w.again (rest ++ 97 ∷ m) h
 
-    last : ◌≡◌ {A = Found} (Some (Anchor End, [])) (Some (k, rest)) → (k ≡ Anchor End) × (rest ≡ [])
+    last : ◌≡◌ {A = NextToken} (Some (Anchor End, [])) (Some (k, rest)) → (k ≡ Anchor End) × (rest ≡ [])
     last h = (sym (ap found_token h), sym (ap found_rest h))
 
     dollar : (x : Bool) → eqb b 36 ≡ x → Taken Basic b (token Basic fold s) (b ∷ []) k rest
@@ -113,7 +114,7 @@ token_more syntax fold s b u m k rest e = by_syntax syntax u ((token_stays synta
 abbrev with_rest : List ℕ → Option State → Option (State × List ℕ)
 with_rest r o = option_and_then (λ x. Some (x, r)) o
 
-abbrev then_state : State → Found → Option (State × List ℕ)
+abbrev then_state : State → NextToken → Option (State × List ℕ)
 then_state s o = option_and_then (λ (k, r). with_rest r (after k s)) o
 
 abbrev Goes : (syntax : Syntax) (fold : Bool) (s s' : State) (b : ℕ) (u m rest : List ℕ) → Type 0
@@ -152,7 +153,7 @@ next_more syntax fold s s' b u m rest e = by_token (token syntax fold s (b ∷ u
             of : after (Anchor End) s ≡ Some s1 → s.outer ≡ s1.outer
             of g = ap outer_or g
 
-    by_token : (o : Found) → token syntax fold s (b ∷ u) ≡ o → then_state s o ≡ Some (s', rest)
+    by_token : (o : NextToken) → token syntax fold s (b ∷ u) ≡ o → then_state s o ≡ Some (s', rest)
         → Goes syntax fold s s' b u m rest
     by_token None t g = cc
     by_token (Some (k, r)) t g = by_state k r t (after k s) refl g

@@ -8,7 +8,7 @@ use Rattle.pg_pattern.specs.Patterns.{Pattern, Set, End, folded}
 use Rattle.pg_grammar.specs.Grammar.{opening, closing, Body}
 use Rattle.pg_grammar.specs.Places.{closings, LeavesOpen, CanGoOn, CannotGoOn, IsMisplaced}
 use Rattle.pg_syntax.specs.Machine.{Level, whole, State, with_item, add, popped, Token, Part, Anchor, Repeat}
-use Rattle.pg_syntax.specs.Machine.{Open, Close, Bar, after, grouped, Found, ends, basic_escape, basic_token, token}
+use Rattle.pg_syntax.specs.Machine.{Open, Close, Bar, after, grouped, NextToken, ends, basic_escape, basic_token, token}
 use Rattle.pg_syntax.proofs.Reading.{next, Completes, next_some, next_no_state}
 use Rattle.pg_grammar.specs.declared.syntax.Syntax.{Syntax}
 use Rattle.pg_grammar.specs.declared.syntax.Syntax.TheVariants.{Basic, Extended}
@@ -188,7 +188,7 @@ module _ (syntax : Syntax) (fold : Bool) where
       some : (j : Token) → j ≡ k → after j s ≡ None
       some j h = ap (λ y. after y s) h ∙ f
 
-      go : (x : Bool) → cond {A = Found} x (Some (Anchor End, u)) (Some (item, u)) ≡ Some (k, rest) → ⊥
+      go : (x : Bool) → cond {A = NextToken} x (Some (Anchor End, u)) (Some (item, u)) ≡ Some (k, rest) → ⊥
       go true g = let h = some (Anchor End) (ap found_token g) in cc
       go false g = let h = some item (ap found_token g) in cc
 
@@ -225,8 +225,8 @@ module _ (fold : Bool) where
   unfolding basic_token basic_escape
   unopened s rest x e = go (grouped s.outer) e
     where
-      go : (g : Bool) → cond {A = Found} g (Some (Close, rest)) None ≡ None
-          → cond {A = Found} g (Some (Close, x)) None ≡ None
+      go : (g : Bool) → cond {A = NextToken} g (Some (Close, rest)) None ≡ None
+          → cond {A = NextToken} g (Some (Close, x)) None ≡ None
       go true h = cc
       go false h = refl
 

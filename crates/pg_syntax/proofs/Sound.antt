@@ -14,7 +14,8 @@ use Rattle.pg_grammar.specs.Grammar as G
 use Rattle.pg_grammar.specs.Grammar.{opening, closing, brace, unbrace, is_escaped, Mark, Atom, Item, Piece}
 use Rattle.pg_grammar.specs.Grammar.{Seq, Body}
 use Rattle.pg_syntax.specs.Machine.{Level, cat, alt, last, State, with_item, Token, Part, Anchor, Repeat, Open, Close}
-use Rattle.pg_syntax.specs.Machine.{Bar, repeated, opened, popped, barred, grouped, after, Found, ends, set_token}
+use Rattle.pg_syntax.specs.Machine.{Bar, repeated, with_group, popped, barred, grouped, after, NextToken, ends}
+use Rattle.pg_syntax.specs.Machine.{set_token}
 use Rattle.pg_syntax.specs.Machine.{repeat_token, basic_escape, extended_escape, basic_token, extended_token, token}
 use Rattle.pg_syntax.proofs.Reading.{next, Completes, done, step}
 use Rattle.pg_grammar.specs.declared.syntax.Syntax.{Syntax}
@@ -91,19 +92,20 @@ module _ (syntax : Syntax) (fold : Bool) (s : State) where
   abbrev pub Told : List ℕ → Token → List ℕ → Type 0
   Told text k rest = (w : List ℕ) × (text ≡ w ++ rest) × Means w rest k
 
-abbrev token_or : Token → Found → Token
+abbrev token_or : Token → NextToken → Token
 token_or k None = k
 token_or k (Some x) = x.0
 
-abbrev rest_or : List ℕ → Found → List ℕ
+abbrev rest_or : List ℕ → NextToken → List ℕ
 rest_or t None = t
 rest_or t (Some x) = x.1
 
-pub found : (P : Token → List ℕ → Type 0) (k k' : Token) (t t' : List ℕ) → ◌≡◌ {A = Found} (Some (k, t)) (Some (k', t'))
+pub found : (P : Token → List ℕ → Type 0) (k k' : Token) (t t' : List ℕ)
+    → ◌≡◌ {A = NextToken} (Some (k, t)) (Some (k', t'))
     → P k t → P k' t'
 found P k k' t t' e p = subst (λ x. P x t') (ap (token_or k) e) (subst (λ x. P k x) (ap (rest_or t) e) p)
 
-nothing_found : (P : Token → List ℕ → Type 0) (k : Token) (t : List ℕ) → ◌≡◌ {A = Found} None (Some (k, t)) → P k t
+nothing_found : (P : Token → List ℕ → Type 0) (k : Token) (t : List ℕ) → ◌≡◌ {A = NextToken} None (Some (k, t)) → P k t
 nothing_found P k t e = cc
 
 set_told : (syntax : Syntax) (fold : Bool) (s : State) (text : List ℕ) (k : Token) (rest : List ℕ)
@@ -321,8 +323,21 @@ extended_told fold s b t k rest e = elim (chosen (eqb b 92) _ _ _ e) [
                               (
                                 plain_front Extended b n92.0,
                                 λ before next at fine. G.byte (
-                                  rw (n92.0, n91.0, n46.0, n40.0, n42.0, n43.0, n63.0, n123.0, n94.0, n36.0, n124.0) refl,
-                                  λ eb. grouped_not s.outer (second (eqb b 41) (grouped s.outer) (eq-eqb b 41 eb) n41g.0),
+                                  rw (
+                                    n92.0,
+                                    n91.0,
+                                    n46.0,
+                                    n40.0,
+                                    n42.0,
+                                    n43.0,
+                                    n63.0,
+                                    n123.0,
+                                    n94.0,
+                                    n36.0,
+                                    n124.0,
+                                  ) refl,
+                                  λ eb. grouped_not s.outer (second (eqb b 41) (grouped s.outer)
+                                      (eq-eqb b 41 eb) n41g.0),
                                 ),
                               ),
                             )
@@ -443,7 +458,7 @@ abbrev state_of : Option (State × List ℕ) → Option State
 state_of None = None
 state_of (Some x) = Some x.0
 
-abbrev token_found : Token → List ℕ → Found
+abbrev token_found : Token → List ℕ → NextToken
 token_found k t = Some (k, t)
 
 module _ (syntax : Syntax) (fold : Bool) where
@@ -586,7 +601,7 @@ module _ (syntax : Syntax) (fold : Bool) where
   repeat_held ls a q (Some i) s' text w e e' m n x h g ne k =
       same_state (λ y. StateHeld y (text ++ w) e') _ s' x (mark_held ls a q i text w e e' m n h g ne k)
 
-  open_held : (s s' : State) (text rest : List ℕ) (e : Bool) → opened s ≡ Some s'
+  open_held : (s s' : State) (text rest : List ℕ) (e : Bool) → with_group s ≡ Some s'
       → StateHeld s text (ending syntax (opening syntax ++ rest)) → StateHeld s' (text ++ opening syntax) e
   open_held s s' text rest e x h = elim (chosen (ltb (length s.outer) 100) _ _ _ x) [
     | inl f ↦ same_state (λ y. StateHeld y (text ++ opening syntax) e) _ s' f.1 (
@@ -682,7 +697,7 @@ module _ (syntax : Syntax) (fold : Bool) where
       pair k u None a h = cc
       pair k u (Some y) a h = (ap (after_rest u) h, a ∙ ap state_of h)
 
-      go : (o : Found) → token syntax fold s t ≡ o
+      go : (o : NextToken) → token syntax fold s t ≡ o
           → option_and_then (λ (k, u). option_and_then (onward u) (after k s)) o ≡ Some (s', rest) → (k : Token)
           × (token syntax fold s t ≡ Some (k, rest)) × (after k s ≡ Some s')
       go None f h = cc

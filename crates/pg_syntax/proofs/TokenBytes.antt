@@ -7,7 +7,8 @@ use Rattle.pg_pattern.specs.Patterns.{Set, Begin, End, folded}
 use Rattle.pg_syntax.specs.BracketReading.{bracket}
 use Rattle.pg_syntax.specs.IntervalReading.{bounds}
 use Rattle.pg_grammar.specs.Grammar.{is_escaped, unbrace}
-use Rattle.pg_syntax.specs.Machine.{last, State, Token, Part, Anchor, Repeat, Open, Close, Bar, grouped, Found, ends}
+use Rattle.pg_syntax.specs.Machine.{last, State, Token, Part, Anchor, Repeat, Open, Close, Bar, grouped, NextToken}
+use Rattle.pg_syntax.specs.Machine.{ends}
 use Rattle.pg_syntax.specs.Machine.{set_token, repeat_token, basic_escape, extended_escape, basic_token, extended_token}
 use Rattle.pg_syntax.specs.Machine.{token}
 use Rattle.pg_grammar.specs.declared.syntax.Syntax.{Syntax}
@@ -21,20 +22,20 @@ use Rattle.pg_syntax.proofs.Sound.{ending, found}
 module _ (syntax : Syntax) (first : ℕ) where
   -- The token takes these bytes, and does so with others behind them too, but for a `$`, which asks whether those end a
   -- body where the rest does.
-  pub record Taken (f : List ℕ → Found) (t : List ℕ) (k : Token) (rest : List ℕ) : Type 0 where
+  pub record Taken (f : List ℕ → NextToken) (t : List ℕ) (k : Token) (rest : List ℕ) : Type 0 where
     pub bytes : List ℕ
     pub is : t ≡ bytes ++ rest
     pub again : (x : List ℕ) → (first ≡ 36 → ending syntax x ≡ ending syntax rest) → f (bytes ++ x) ≡ Some (k, x)
 
   -- the token at the front takes such bytes
-  pub record Stays (f : List ℕ → Found) (t : List ℕ) : Type 0 where
+  pub record Stays (f : List ℕ → NextToken) (t : List ℕ) : Type 0 where
     pub taken : (k : Token) (rest : List ℕ) → f t ≡ Some (k, rest) → Taken f t k rest
 
-  layer : (f g : List ℕ → Found) (b : Bool) (t : List ℕ) → Stays f t → Stays g t → Stays (λ u. cond b (f u) (g u)) t
+  layer : (f g : List ℕ → NextToken) (b : Bool) (t : List ℕ) → Stays f t → Stays g t → Stays (λ u. cond b (f u) (g u)) t
   layer f g true t h k = h
   layer f g false t h k = k
 
-  layer_if : (f g : List ℕ → Found) (b : Bool) (t : List ℕ) → (b ≡ true → Stays f t) → Stays g t
+  layer_if : (f g : List ℕ → NextToken) (b : Bool) (t : List ℕ) → (b ≡ true → Stays f t) → Stays g t
       → Stays (λ u. cond b (f u) (g u)) t
   layer_if f g true t h k = h refl
   layer_if f g false t h k = k
@@ -48,7 +49,7 @@ module _ (syntax : Syntax) (first : ℕ) where
   nothing : (t : List ℕ) → Stays (λ u. None) t
   nothing t = record { taken = λ k rest e. cc }
 
-  behind : (f : List ℕ → Found) (c : ℕ) (t : List ℕ) → Stays (λ u. f (c ∷ u)) t → Stays f (c ∷ t)
+  behind : (f : List ℕ → NextToken) (c : ℕ) (t : List ℕ) → Stays (λ u. f (c ∷ u)) t → Stays f (c ∷ t)
   behind f c t h = record {
     taken = λ k rest e.
         let w = h.taken k rest e in
@@ -58,7 +59,7 @@ module _ (syntax : Syntax) (first : ℕ) where
   set_stays : (fold : Bool) (t : List ℕ) → Stays (λ u. set_token (bracket fold (91 ∷ u))) t
   set_stays fold t = record { taken = λ k rest e. go k rest (bracket fold (91 ∷ t)) refl e }
     where
-      f : List ℕ → Found
+      f : List ℕ → NextToken
       f u = set_token (bracket fold (91 ∷ u))
 
       inner : (w u rest : List ℕ) → 91 ∷ t ≡ w ++ rest → w ≡ 91 ∷ u → t ≡ u ++ rest
@@ -80,7 +81,7 @@ module _ (syntax : Syntax) (first : ℕ) where
   repeat_stays : (t : List ℕ) → Stays (λ u. repeat_token (bounds (unbrace syntax) u)) t
   repeat_stays t = record { taken = λ k rest e. go k rest (bounds (unbrace syntax) t) refl e }
     where
-      f : List ℕ → Found
+      f : List ℕ → NextToken
       f u = repeat_token (bounds (unbrace syntax) u)
 
       go : (k : Token) (rest : List ℕ) (o : Option (ℕ × Option ℕ × List ℕ)) → bounds (unbrace syntax) t ≡ o
@@ -122,16 +123,16 @@ dollar_stays : (b : ℕ) (item : Token) (t : List ℕ)
     → Stays Basic b (λ u. cond (eqb b 36 && ends u) (Some (Anchor End, u)) (Some (item, u))) t
 dollar_stays b item t = record { taken = λ k rest e. go k rest (eqb b 36 && ends t) refl e }
   where
-    pick : List ℕ → Bool → Found
+    pick : List ℕ → Bool → NextToken
     pick u true = Some (Anchor End, u)
     pick u false = Some (item, u)
 
-    f : List ℕ → Found
+    f : List ℕ → NextToken
     f u = cond (eqb b 36 && ends u) (Some (Anchor End, u)) (Some (item, u))
 
     picked : (u : List ℕ) (x : Bool) → (eqb b 36 && ends u) ≡ x → f u ≡ pick u x
-    picked u true e = ap (λ (z : Bool). cond {A = Found} z (Some (Anchor End, u)) (Some (item, u))) e
-    picked u false e = ap (λ (z : Bool). cond {A = Found} z (Some (Anchor End, u)) (Some (item, u))) e
+    picked u true e = ap (λ (z : Bool). cond {A = NextToken} z (Some (Anchor End, u)) (Some (item, u))) e
+    picked u false e = ap (λ (z : Bool). cond {A = NextToken} z (Some (Anchor End, u)) (Some (item, u))) e
 
     same : (u : List ℕ) → (b ≡ 36 → ends u ≡ ends t) → (z : Bool) → eqb b 36 ≡ z → (z && ends u) ≡ (z && ends t)
     same u h true e = h (eqb-true b 36 e)

@@ -9,12 +9,12 @@ use Rattle.pg_grammar.specs.Grammar as G
 use Rattle.pg_grammar.specs.Grammar.{Spells}
 use Rattle.pg_syntax.specs.Machine as M
 use Rattle.pg_syntax.proofs.Proper.{spelled_proper}
-use Rattle.pg_syntax.specs.Machine.{State, Token, Level, start, whole, grouped, opened, token, after}
+use Rattle.pg_syntax.specs.Machine.{State, Token, Level, start, whole, grouped, with_group, token, after}
 use Rattle.pg_syntax.proofs.Reading.{next, Completes, done, step, next_some, next_no_state}
 use Rattle.pg_syntax.proofs.Onward.{Leads, begin, onward, open_end, leaves_open, leaves_empty}
 use Rattle.pg_syntax.proofs.Prefixes.{leaves_more, can_go_on, stops, closing_stops}
 use Rattle.pg_syntax.proofs.IntervalLemmas.{chosen}
-use Rattle.pg_grammar.specs.Places.{Stands, Place, PlaceInToken, CanGoOn, IsMisplaced}
+use Rattle.pg_grammar.specs.Places.{BytesStand, MayStand, PlaceInToken, CanGoOn, IsMisplaced}
 use Rattle.pg_grammar.specs.Results.{IsSpelled, IsRefused, IsFault, too_long}
 use Rattle.pg_syntax.specs.Expressions.{kind_of}
 use Rattle.pg_syntax.specs.Tokens.{ClosesNone, blame, Applies}
@@ -34,7 +34,7 @@ Keeps syntax fold text s rest = (p : Pattern) → Completes syntax fold start te
 
 -- where a fault stands in an expression of a syntax
 place_of : (syntax : Syntax) (kind : FaultKind) (text : List ℕ) (token at : ℕ) → CanGoOn syntax (take token text)
-    → PlaceInToken syntax kind text token at → Place (kind_of syntax) kind text at
+    → PlaceInToken syntax kind text token at → MayStand (kind_of syntax) kind text at
 place_of S.Basic kind text token at front h = (token, front, h)
 place_of S.Extended kind text token at front h = (token, front, h)
 
@@ -116,7 +116,7 @@ module _ (syntax : Syntax) (fold : Bool) where
   below : (n : ℕ) → ltb n 100 ≡ false → 99 < n
   below n e = grind (arith, nat_tests)
 
-  too_many : (s : State) → opened s ≡ None → 99 < length s.outer
+  too_many : (s : State) → with_group s ≡ None → 99 < length s.outer
   too_many s e = elim (chosen (ltb (length s.outer) 100) _ _ _ e) [
     | inl h ↦ absurd (let f : ⊥ = cc (h.1) in f)
     | inr h ↦ below (length s.outer) h.0
@@ -147,7 +147,7 @@ module _ (syntax : Syntax) (fold : Bool) where
 
   -- what closes no group stands where no token is found
   unopened_place : (x : Syntax) (text : List ℕ) (at : ℕ) (s : State) → token x fold s (drop at text) ≡ None
-      → Leads x fold text s (drop at text) → x ≡ Basic → Stands text at (G.closing Basic)
+      → Leads x fold text s (drop at text) → x ≡ Basic → BytesStand text at (G.closing Basic)
       → PlaceInToken x UnmatchedGroup text at at
   unopened_place Basic text at s e leads is (rest, eq) =
       (refl, inl (refl, closing_stops fold text at s rest eq e leads))

@@ -41,7 +41,7 @@ FaultPlaced text bracket None = Unit {0}
 FaultPlaced text bracket (Some f) = FaultPlace text bracket f
 
 -- an element stands at the second offset, inside the bracket that begins at the first one, and this follows it
-pub record Holds (text : List ℕ) (bracket at : ℕ) (a : Element) (rest : List ℕ) : Type 0 where
+pub record HasElement (text : List ℕ) (bracket at : ℕ) (a : Element) (rest : List ℕ) : Type 0 where
   pub inside : StandsInBracket text bracket at (element a)
   pub front : B.IsFront (element a) (drop at text) rest
 
@@ -53,8 +53,8 @@ EndsRange text bracket at rest =
 -- the element that is held, or that began the range, stands where it says, and this follows what was read
 abbrev pub ModePlaced : List ℕ → ℕ → List ℕ → Mode → Type 0
 ModePlaced text bracket rest Fresh = Unit {0}
-ModePlaced text bracket rest (Held at a) = Holds text bracket at a rest
-ModePlaced text bracket rest (Dashed at a) = Holds text bracket at a (45 ∷ rest)
+ModePlaced text bracket rest (Held at a) = HasElement text bracket at a rest
+ModePlaced text bracket rest (Dashed at a) = HasElement text bracket at a (45 ∷ rest)
 ModePlaced text bracket rest (Ranged at) = EndsRange text bracket at rest
 ModePlaced text bracket rest (Barred at) = EndsRange text bracket at (45 ∷ rest)
 
@@ -63,9 +63,10 @@ abbrev pub Placed : List ℕ → ℕ → List ℕ → Reading → Type 0
 Placed text bracket rest r = FaultPlaced text bracket r.fault × ModePlaced text bracket rest r.mode
 
 -- an element stands where a reading goes on; behind the first one it is no `]`
-pub record GoesOn (text : List ℕ) (bracket : ℕ) (mode : Mode) (at : ℕ) (a : Element) (rest : List ℕ) : Type 0 where
-  pub holds : Holds text bracket at a rest
-  pub inner : (mode ≡ Fresh) ⊎ (element a ≢ B.Single 93)
+pub record ElementFollows (text : List ℕ) (bracket : ℕ) (mode : Mode) (at : ℕ) (a : Element) (rest : List ℕ) : Type 0
+  where
+    pub holds : HasElement text bracket at a rest
+    pub inner : (mode ≡ Fresh) ⊎ (element a ≢ B.Single 93)
 
 -- the element that is found at an offset, and the offset after it
 abbrev pub FindsElement : List ℕ → ℕ → Option (Element × ℕ) → Option (B.Element × List ℕ) → Type 0

@@ -7,22 +7,22 @@ use Rattle.pg_pattern.specs.Patterns.{folded}
 use Rattle.pg_grammar.specs.Brackets.{Element, Single, Enclosed, opens, member, end_point, is_dash}
 
 -- what stands before an end, and after it
-abbrev pub Content : Type 0
-Content = Option (List ℕ × List ℕ)
+abbrev pub BracketContent : Type 0
+BracketContent = Option (List ℕ × List ℕ)
 
 -- one more byte stands in front
-abbrev pub with_byte : ℕ → Content → Content
+abbrev pub with_byte : ℕ → BracketContent → BracketContent
 with_byte a None = None
 with_byte a (Some x) = Some (a ∷ x.0, x.1)
 
 -- what stands before the first mark with a `]`, and after them
-abbrev pub until : ℕ → List ℕ → Content
+abbrev pub until : ℕ → List ℕ → BracketContent
 until c [] = None
 until c (a ∷ []) = None
 until c (a ∷ b ∷ t) = if (a == c) && (b == 93) then Some ([], t) else with_byte a (until c (b ∷ t))
 
 -- the enclosed element of a content
-abbrev pub enclosed_in : ℕ → Content → Option (Element × List ℕ)
+abbrev pub enclosed_in : ℕ → BracketContent → Option (Element × List ℕ)
 enclosed_in c None = None
 enclosed_in c (Some x) = Some (Enclosed c x.0, x.1)
 
@@ -113,9 +113,9 @@ abbrev pub read : Reading → List Element → Option Bytes
 read r es = if r.bad then None else unite (Some r.set) (members_of r.mode es)
 
 -- a part of the set was read, or a bad part
-abbrev pub add : Reading → Option Bytes → Mode → Reading
-add r None mode = record { mode = mode; set = r.set; bad = true }
-add r (Some s) mode = record { mode = mode; set = union r.set s; bad = r.bad }
+abbrev pub add_element : Reading → Option Bytes → Mode → Reading
+add_element r None mode = record { mode = mode; set = r.set; bad = true }
+add_element r (Some s) mode = record { mode = mode; set = union r.set s; bad = r.bad }
 
 -- only the mode changes
 abbrev pub go : Reading → Mode → Reading
@@ -124,10 +124,10 @@ go r mode = record { mode = mode; set = r.set; bad = r.bad }
 -- one more element is read in a mode
 abbrev pub put_in : Reading → Mode → Element → Reading
 put_in r Fresh a = go r (Held a)
-put_in r (Held a) d = if is_dash d then go r (Dashed a d) else add r (member a) (Held d)
-put_in r (Dashed a d) b = add r (range_of (end_point a) (end_point b)) Ranged
+put_in r (Held a) d = if is_dash d then go r (Dashed a d) else add_element r (member a) (Held d)
+put_in r (Dashed a d) b = add_element r (range_of (end_point a) (end_point b)) Ranged
 put_in r Ranged d = if is_dash d then go r (Barred d) else go r (Held d)
-put_in r (Barred d) b = add r None Ranged
+put_in r (Barred d) b = add_element r None Ranged
 
 -- one more element is read
 abbrev pub put : Reading → Element → Reading
@@ -136,10 +136,10 @@ put r a = put_in r r.mode a
 -- no element follows in a mode
 abbrev pub finish_in : Reading → Mode → Reading
 finish_in r Fresh = r
-finish_in r (Held a) = add r (member a) Fresh
-finish_in r (Dashed a d) = add (add r (member a) Fresh) (member d) Fresh
+finish_in r (Held a) = add_element r (member a) Fresh
+finish_in r (Dashed a d) = add_element (add_element r (member a) Fresh) (member d) Fresh
 finish_in r Ranged = r
-finish_in r (Barred d) = add r (member d) Fresh
+finish_in r (Barred d) = add_element r (member d) Fresh
 
 -- what is read where no element follows
 abbrev pub finish : Reading → Option Bytes

@@ -90,8 +90,8 @@ repeated m n s (Some p) = Some (record {
 })
 
 -- a group is opened, if fewer than 100 are open
-abbrev pub opened : State → Option State
-opened s = if nat_lt (length s.outer) 100 then Some (record { outer = s.level ∷ s.outer; level = fresh }) else None
+abbrev pub with_group : State → Option State
+with_group s = if nat_lt (length s.outer) 100 then Some (record { outer = s.level ∷ s.outer; level = fresh }) else None
 
 -- the innermost group is closed, if there is one and its pattern isn't empty
 abbrev pub popped : List Level → Option Pattern → Option State
@@ -110,13 +110,13 @@ abbrev pub after : Token → State → Option State
 after (Part p) s = Some (add p s)
 after (Anchor p) s = Some (anchored p s)
 after (Repeat m n) s = repeated m n s s.level.item
-after Open s = opened s
+after Open s = with_group s
 after Close s = popped s.outer (whole s.level)
 after Bar s = barred s (whole s.level)
 
 -- a token, and the rest of the text
-abbrev pub Found : Type 0
-Found = Option (Token × List ℕ)
+abbrev pub NextToken : Type 0
+NextToken = Option (Token × List ℕ)
 
 -- the end of a body of a basic expression
 abbrev pub ends : List ℕ → Bool
@@ -125,17 +125,17 @@ ends (a ∷ []) = false
 ends (a ∷ b ∷ t) = (a == 92) && (b == 41)
 
 -- the token of a bracket
-abbrev pub set_token : Option (Bytes × List ℕ) → Found
+abbrev pub set_token : Option (Bytes × List ℕ) → NextToken
 set_token None = None
 set_token (Some (s, t)) = Some (Part (Set s), t)
 
 -- the token of an interval
-abbrev pub repeat_token : Option (ℕ × Option ℕ × List ℕ) → Found
+abbrev pub repeat_token : Option (ℕ × Option ℕ × List ℕ) → NextToken
 repeat_token None = None
 repeat_token (Some (m, n, t)) = Some (Repeat m n, t)
 
 -- the token of a backslash, by what follows it
-unfoldable pub basic_escape : Bool → State → List ℕ → Found
+unfoldable pub basic_escape : Bool → State → List ℕ → NextToken
 basic_escape fold s [] = None
 basic_escape fold s (c ∷ t) =
     if c == 40 then Some (Open, t)
@@ -145,12 +145,12 @@ basic_escape fold s (c ∷ t) =
     else None
 
 -- the token of a backslash, by what follows it
-unfoldable pub extended_escape : Bool → List ℕ → Found
+unfoldable pub extended_escape : Bool → List ℕ → NextToken
 extended_escape fold [] = None
 extended_escape fold (c ∷ t) = if is_escaped Extended c then Some (Part (Set (folded fold (one c))), t) else None
 
 -- the token at the front of the rest of a basic expression
-unfoldable pub basic_token : Bool → State → ℕ → List ℕ → Found
+unfoldable pub basic_token : Bool → State → ℕ → List ℕ → NextToken
 basic_token fold s b t =
     if b == 92 then basic_escape fold s t
     else if b == 91 then set_token (bracket fold (b ∷ t))
@@ -161,7 +161,7 @@ basic_token fold s b t =
     else Some (Part (Set (folded fold (one b))), t)
 
 -- the token of a byte that neither escapes nor repeats
-abbrev pub extended_other : Bool → State → ℕ → List ℕ → Found
+abbrev pub extended_other : Bool → State → ℕ → List ℕ → NextToken
 extended_other fold s b t =
     if b == 40 then Some (Open, t)
     else if (b == 41) && grouped s.outer then Some (Close, t)
@@ -171,7 +171,7 @@ extended_other fold s b t =
     else Some (Part (Set (folded fold (one b))), t)
 
 -- the token at the front of the rest of an extended expression
-unfoldable pub extended_token : Bool → State → ℕ → List ℕ → Found
+unfoldable pub extended_token : Bool → State → ℕ → List ℕ → NextToken
 extended_token fold s b t =
     if b == 92 then extended_escape fold t
     else if b == 91 then set_token (bracket fold (b ∷ t))
@@ -183,7 +183,7 @@ extended_token fold s b t =
     else extended_other fold s b t
 
 -- the token at the front of the rest of an expression
-abbrev pub token : Syntax → Bool → State → List ℕ → Found
+abbrev pub token : Syntax → Bool → State → List ℕ → NextToken
 token syntax fold s [] = None
 token Basic fold s (b ∷ t) = basic_token fold s b t
 token Extended fold s (b ∷ t) = extended_token fold s b t

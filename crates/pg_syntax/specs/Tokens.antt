@@ -6,7 +6,7 @@ use Rattle.pg_bytes.specs.declared.byte_set.ByteSet.{ByteSet}
 use Rattle.pg_pattern.specs.Patterns as P
 use Rattle.pg_syntax.specs.Machine as M
 use Rattle.pg_grammar.specs.Grammar.{closing}
-use Rattle.pg_grammar.specs.Places.{Stands, PlaceInToken}
+use Rattle.pg_grammar.specs.Places.{BytesStand, PlaceInToken}
 use Rattle.pg_syntax.specs.BracketPlaces.{BracketPlace}
 use Rattle.pg_grammar.specs.Results.{out_of_memory}
 use Rattle.pg_grammar.specs.declared.syntax.Syntax.{Syntax}
@@ -32,11 +32,11 @@ token_of Bar = M.Bar
 -- what closes a group stands here in a basic expression, and closes none
 abbrev pub ClosesNone : Syntax → List ℕ → ℕ → SyntaxFault → Type 0
 ClosesNone syntax text at f =
-    (f ≡ record { kind = UnmatchedGroup; at = at }) × (syntax ≡ S.Basic) × Stands text at (closing S.Basic)
+    (f ≡ record { kind = UnmatchedGroup; at = at }) × (syntax ≡ S.Basic) × BytesStand text at (closing S.Basic)
 
 -- the token that is found, and the offset after it; or a fault at its place in the token here, or at what closes no
 -- group, and nothing is found
-abbrev pub Finds : Syntax → List ℕ → ℕ → Result (Token × ℕ) SyntaxFault → M.Found → Type 0
+abbrev pub Finds : Syntax → List ℕ → ℕ → Result (Token × ℕ) SyntaxFault → M.NextToken → Type 0
 Finds syntax text at (Ok x) found = (found ≡ Some (token_of x.0, drop x.1 text)) × (at < x.1) × (x.1 ≤ length text)
 Finds syntax text at (Err f) found =
     (found ≡ None) × (ClosesNone syntax text at f ⊎ PlaceInToken syntax f.kind text at f.at)

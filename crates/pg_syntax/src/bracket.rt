@@ -3,9 +3,9 @@ ghost use Rattle.std.specs.Prelude.{◌≡◌, ◌<◌, ◌≤◌, ◌+◌, ℕ,
 ghost use Rattle.std.specs.Prelude.{option_map, MatchResult, IfErr, Some, None};
 ghost use Rattle.pg_bytes.specs.ByteSets.{bytes};
 ghost use Rattle.pg_grammar.specs.Brackets.{negates, OpensBracket};
-ghost use Rattle.pg_syntax.specs.BracketReading.{bracket, shape, elements_from, add, put, finish};
+ghost use Rattle.pg_syntax.specs.BracketReading.{bracket, shape, elements_from, add_element, put, finish};
 ghost use Rattle.pg_syntax.specs.BracketViews.{element, reading};
-ghost use Rattle.pg_syntax.specs.BracketPlaces.{GoesOn, FaultPlace, FaultPlaced, Placed};
+ghost use Rattle.pg_syntax.specs.BracketPlaces.{ElementFollows, FaultPlace, FaultPlaced, Placed};
 ghost use Rattle.pg_syntax.specs.Tokens.{FindsSet};
 
 use crate::element::{Element, element_at};
@@ -41,7 +41,7 @@ impl<'a> Reading<'a> {
     /// Adds a part of the set, or the fault that it is.
     fn add(&mut self, part: Option<ByteSet>, fault: SyntaxFault)
         ensures reads { reading self.new ≡
-            add (reading self.old) (option_map bytes part) (reading self.old).mode }
+            add_element (reading self.old) (option_map bytes part) (reading self.old).mode }
         ensures mode { self.new.mode ≡ self.old.mode }
         ensures placed { (text : List ℕ) (bracket : ℕ) → FaultPlaced text bracket self.old.fault →
             (part ≡ None → FaultPlace text bracket fault) → FaultPlaced text bracket self.new.fault }
@@ -64,7 +64,7 @@ impl<'a> Reading<'a> {
     fn put(&mut self, at: usize, next: Element<'a>)
         ensures reads { reading self.new ≡ put (reading self.old) (element next.entry) }
         ensures placed { (text : List ℕ) (bracket : ℕ) (rest : List ℕ) → Placed text bracket (drop at text) self.old →
-            GoesOn text bracket self.old.mode at next.entry rest → Placed text bracket rest self.new }
+            ElementFollows text bracket self.old.mode at next.entry rest → Placed text bracket rest self.new }
     {
         match self.mode {
             Mode::Fresh => self.mode = Mode::Held(at, next),

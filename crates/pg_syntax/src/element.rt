@@ -5,7 +5,7 @@ ghost use Rattle.pg_bytes.specs.ByteSets.{bytes};
 ghost use Rattle.pg_grammar.specs.Brackets.{member, end_point, is_dash, only_byte};
 ghost use Rattle.pg_syntax.specs.BracketReading.{range_of, element_at, SingleAt, EnclosedAt};
 ghost use Rattle.pg_syntax.specs.BracketViews.{element};
-ghost use Rattle.pg_syntax.specs.BracketPlaces.{Holds, FaultPlace, FindsElement};
+ghost use Rattle.pg_syntax.specs.BracketPlaces.{HasElement, FaultPlace, FindsElement};
 ghost use Rattle.pg_grammar.specs.Places.{IsBadRange};
 ghost use Rattle.pg_syntax.specs.Reads.{EndsContent};
 
@@ -78,7 +78,7 @@ impl<'a> Element<'a> {
     /// The fault of an element that stands at this offset, inside a bracket, and stands for no bytes.
     pub(crate) fn fault(self, at: usize) -> SyntaxFault
         ensures { (text : List ℕ) (bracket : ℕ) (rest : List ℕ) → member (element self.entry) ≡ None →
-            Holds text bracket at self.entry rest → FaultPlace text bracket result }
+            HasElement text bracket at self.entry rest → FaultPlace text bracket result }
     {
         let kind = match self {
             Element::Single(_) => FaultKind::BadRange,
@@ -96,8 +96,9 @@ impl<'a> Element<'a> {
     /// The fault of the range from this element, at `start`, to the last one, at `at`, both inside a bracket: no range
     /// joins the two.
     pub(crate) fn range_fault(self, start: usize, last: Element, at: usize) -> SyntaxFault
-        ensures { (text : List ℕ) (bracket : ℕ) (from rest : List ℕ) → Holds text bracket start self.entry from →
-            Holds text bracket at last.entry rest → IsBadRange text bracket start → FaultPlace text bracket result }
+        ensures { (text : List ℕ) (bracket : ℕ) (from rest : List ℕ) → HasElement text bracket start self.entry from →
+            HasElement text bracket at last.entry rest → IsBadRange text bracket start
+            → FaultPlace text bracket result }
     {
         if self.member().is_none() {
             return self.fault(start);

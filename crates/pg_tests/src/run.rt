@@ -374,8 +374,8 @@ impl<'a> Row<'a> {
         }
     }
 
-    /// Reading fails behind the file, in blocks and reads of some sizes, by one thread and by three, also where its bytes
-    /// are in memory already.
+    /// Reading fails behind the file, in blocks and reads of some sizes, by one thread and by three, also where its
+    /// bytes are in memory already.
     fn push_reads(self, rt: &impl Abort, cases: &mut Vec<Expected<'a>>) {
         for block in 1..=10u32 {
             for (read_limit, workers) in [(1, 0), (2, 0), (1, 2), (2, 2)] {

@@ -5,7 +5,7 @@ use Rattle.std.specs.Prelude.{slice_index}
 use Rattle.std.specs.List.{filter, list_any}
 use Rattle.std.proofs.lemmas.Bool.Decides.{nat_tests}
 use Rattle.std.proofs.lemmas.List.{get_or-take, length-take-le}
-use Rattle.pg_walk.specs.Answers.{Text, Answers}
+use Rattle.pg_walk.specs.Answers.{Path, Answers}
 use Rattle.pg_walk.specs.Paths.{ends_with_slash, beginnings, above}
 use Rattle.pg_walk.specs.Circles.{are_one}
 use Rattle.pg_walk.specs.Scopes.{Scope, sights}
@@ -13,14 +13,14 @@ use Rattle.pg_walk.specs.declared.tree.Identity.{Identity}
 use Rattle.std.proofs.Math.Bool.{and-false}
 
 -- one of the longest so many beginnings that end with a slash, among those of at most so many bytes, passes the test
-abbrev pub some_above : (Text → Bool) → Text → ℕ → ℕ → Bool
+abbrev pub some_above : (Path → Bool) → Path → ℕ → ℕ → Bool
 some_above test path left n = list_any test (take left (filter ends_with_slash (beginnings path n)))
 
 -- this file stands at the path
-abbrev pub is_own : Answers → Identity → Text → Bool
+abbrev pub is_own : Answers → Identity → Path → Bool
 is_own a own path = are_one (a.identity path) (Some own)
 
-ends_as : (path : Text) (n : ℕ) → n < length path → ends_with_slash (take (suc n) path) ≡ (slice_index path n == 47)
+ends_as : (path : Path) (n : ℕ) → n < length path → ends_with_slash (take (suc n) path) ≡ (slice_index path n == 47)
 ends_as path n h =
     let k : length (take (suc n) path) - 1 ≡ n =
     ap (λ m. m - 1) (length-take-le (suc n) path (omega arith)) ∙ omega arith in
@@ -33,7 +33,7 @@ is_slash x e = grind (arith, nat_tests)
 is_other : (x : ℕ) → (x ≡ 47 → ⊥) → (x == 47) ≡ false
 is_other x e = grind (arith, nat_tests)
 
-module _ (test : Text → Bool) (path : Text) where
+module _ (test : Path → Bool) (path : Path) where
   slash_at : (left n : ℕ) → n < length path → (slice_index path n == 47) ≡ true
       → some_above test path (suc left) (suc n) ≡ (test (take (suc n) path) || some_above test path left n)
   slash_at left n h e =
@@ -74,7 +74,7 @@ module _ (test : Text → Bool) (path : Text) where
       none_before zero = refl
       none_before (suc left) = refl
 
-no_own : (f : Text → Option Identity) (directories : List Text)
+no_own : (f : Path → Option Identity) (directories : List Path)
     → list_any (λ directory. are_one (f directory) None) directories ≡ false
 no_own f [] = refl
 no_own f (d ∷ ds) = ap (λ b. b || list_any (λ directory. are_one (f directory) None) ds) (none_one (f d)) ∙ no_own f ds
@@ -84,12 +84,12 @@ no_own f (d ∷ ds) = ap (λ b. b || list_any (λ directory. are_one (f director
     none_one (Some x) = refl
 
 -- what can't be told lies in nothing
-pub untold_free : (s : Scope) (a : Answers) (depth : ℕ) (path : Text) → a.identity path ≡ None
+pub untold_free : (s : Scope) (a : Answers) (depth : ℕ) (path : Path) → a.identity path ≡ None
     → (sights s a).circle depth path ≡ false
 untold_free s a depth path e =
     ap (λ o. s.follows && list_any (λ directory. are_one (a.identity directory) o) (above depth path)) e
     ∙ (ap (λ b. s.follows && b) (no_own a.identity (above depth path)) ∙ and-false s.follows)
 
 -- an operand lies in nothing
-pub operand_free : (s : Scope) (a : Answers) (path : Text) → (sights s a).circle 0 path ≡ false
+pub operand_free : (s : Scope) (a : Answers) (path : Path) → (sights s a).circle 0 path ≡ false
 operand_free s a path = and-false s.follows

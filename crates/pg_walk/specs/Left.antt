@@ -2,7 +2,7 @@
 use Rattle.std.specs.Prelude.{ℕ, ◌≡◌, Bool, List, [], ◌∷◌, ◌++◌, map, reverse, Option, Some, None}
 use Rattle.std.specs.String.{string_bytes}
 use Rattle.std.specs.List.{All}
-use Rattle.pg_walk.specs.Answers.{Text, Answers}
+use Rattle.pg_walk.specs.Answers.{Path, Answers}
 use Rattle.pg_walk.specs.Scopes.{Scope, Sights, sights}
 use Rattle.pg_walk.specs.Items.{Found}
 use Rattle.pg_walk.specs.Places.{Names}
@@ -14,8 +14,8 @@ use Rattle.pg_walk.specs.declared.walker.WaitingPath.TheVariants as V
 
 -- a path whose turn is still to come: an operand, or an entry of this depth
 pub data Spot : Type 0 where
-  Operand : Text → Spot
-  Entry : Text → ℕ → Spot
+  Operand : Path → Spot
+  Entry : Path → ℕ → Spot
 
 abbrev pub spot_of : {A : Type 0} → WaitingPath A → Spot
 spot_of (V.Operand path) = Operand (string_bytes path)
@@ -71,20 +71,20 @@ UnfoldsWithin scope may item old new =
 
 -- All items of a walk. Where the tree tells its answers they are what the walk gives, and of any tree they follow the
 -- operands.
-pub record IsWalk (tells : Type 0) (a : Answers) (operands : List Text) (scope : Scope) (items : List Found)
+pub record IsWalk (tells : Type 0) (a : Answers) (operands : List Path) (scope : Scope) (items : List Found)
     : Type 0 where
   pub gives : tells → FilesOf (sights scope a) operands scope.recursive items
   pub follows : FollowOperands scope operands items
 
 -- The first items of a walk: more go on from them.
-pub record BeginsWalk (tells : Type 0) (a : Answers) (operands : List Text) (scope : Scope) (items : List Found)
+pub record BeginsWalk (tells : Type 0) (a : Answers) (operands : List Path) (scope : Scope) (items : List Found)
     : Type 0 where
   pub gives : tells → (rest : List Found) × FilesOf (sights scope a) operands scope.recursive (items ++ rest)
   pub follows : (rest : List Found) × FollowOperands scope operands (items ++ rest)
 
 -- A walk over operands has given these items, and these paths wait: with whatever they give, it is all that the walk
 -- gives.
-pub record HasGiven (tells : Type 0) (a : Answers) (operands : List Text) (scope : Scope) (items : List Found)
+pub record HasGiven (tells : Type 0) (a : Answers) (operands : List Path) (scope : Scope) (items : List Found)
     (spots : List Spot) : Type 0 where
   pub gives : tells → (rest : List Found) → AreLeft (sights scope a) scope.recursive spots rest →
       FilesOf (sights scope a) operands scope.recursive (items ++ rest)

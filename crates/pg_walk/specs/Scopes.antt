@@ -2,7 +2,7 @@
 use Rattle.std.specs.Prelude.{ℕ, ◌≡◌, ◌||◌, ◌&&◌, Bool, if◌then◌else◌, List, Option, Some, None, Result, Ok, Err}
 use Rattle.pg_glob.specs.Filters.{Rule, leaves_out}
 use Rattle.pg_glob.specs.Views.{rules}
-use Rattle.pg_walk.specs.Answers.{Text, Content, Answers}
+use Rattle.pg_walk.specs.Answers.{Path, Content, Answers}
 use Rattle.pg_walk.specs.Circles.{lies_in_itself}
 use Rattle.pg_walk.specs.declared.scope.Devices.{Devices}
 use Rattle.pg_walk.specs.declared.scope.Devices.TheVariants.{ReadOperands, Read, Skip}
@@ -46,14 +46,14 @@ are_skipped Skip = Bool.true
 
 -- what stands at a path is left out: a directory where all are (GNU grep's `-d skip`) and by the rules for directories,
 -- a device where all are and by the rules for files, and anything else by these
-abbrev pub is_left_out : Scope → Bool → Text → FileKind → Bool
+abbrev pub is_left_out : Scope → Bool → Path → FileKind → Bool
 is_left_out scope operand path Regular = leaves_out scope.files operand path
 is_left_out scope operand path Directory = scope.skips_directories || leaves_out scope.directories operand path
 is_left_out scope operand path Link = leaves_out scope.files operand path
 is_left_out scope operand path Other = are_skipped scope.devices || leaves_out scope.files operand path
 
 -- an operand may be left out
-abbrev pub may_leave_out : Scope → Text → Bool
+abbrev pub may_leave_out : Scope → Path → Bool
 may_leave_out scope operand =
     (scope.skips_directories || are_skipped scope.devices)
     || (leaves_out scope.files Bool.true operand || leaves_out scope.directories Bool.true operand)
@@ -74,12 +74,12 @@ pub data Sight : Type 0 where
 -- A tree as a walk sees it: what is at a path, that of an operand where the flag is true; what the directory there
 -- holds; and whether links lead in a circle to the directory at the path of an entry so many names below its operand.
 pub record Sights : Type 0 where
-  pub kind : Text → Bool → Sight
-  pub content : Text → Option Content
-  pub circle : ℕ → Text → Bool
+  pub kind : Path → Bool → Sight
+  pub content : Path → Option Content
+  pub circle : ℕ → Path → Bool
 
 -- an entry of which nothing can be told, as a link that leads to nothing, is left out by the rules for files
-abbrev pub sight : Scope → Bool → Text → Option FileKind → Sight
+abbrev pub sight : Scope → Bool → Path → Option FileKind → Sight
 sight scope operand path None =
     if operand then IsUntold else if leaves_out scope.files operand path then IsLeftOut else IsUntold
 sight scope operand path (Some kind) =

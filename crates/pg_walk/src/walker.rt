@@ -5,7 +5,7 @@ ghost use Rattle.std.specs.Option.{option_map};
 ghost use Rattle.std.specs.Ordering.{nat_cmp};
 ghost use Rattle.std.specs.Cmp.Lexicographic.{slice_cmp};
 ghost use Rattle.std.specs.String.{string_bytes};
-ghost use Rattle.pg_walk.specs.Answers.{Text};
+ghost use Rattle.pg_walk.specs.Answers.{Path};
 ghost use Rattle.pg_walk.specs.Items.{Found, found};
 ghost use Rattle.pg_walk.specs.Places.{child};
 ghost use Rattle.pg_walk.specs.Scopes.{Scope as Asked, scope_of, sights};
@@ -318,7 +318,7 @@ impl<'t, T: FileTree, A: Allocator + Copy> Walker<'t, T, A> {
     /// row gave no item. The path whose turn it was is lost then, so the walk can't go on.
     pub fn next(&mut self) -> Result<Option<Item<A>>, AllocError>
         ensures same { (self.new.tree.now ≡ self.old.tree.now) × (self.new.scope ≡ self.old.scope) }
-        ensures gives { (operands : List Text) → (items : List Found) →
+        ensures gives { (operands : List Path) → (items : List Found) →
             HasGiven (T.tells self.old.tree.now) (T.answers self.old.tree.now) operands (scope_of self.old.scope)
             items (spots_in self.old.waiting.items) →
             IfOk result (λ item.

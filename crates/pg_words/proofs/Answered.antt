@@ -17,10 +17,10 @@ use Rattle.pg_words.specs.App.{our_app}
 use Rattle.pg_words.specs.Asked.{asked_of, pace_of}
 use Rattle.pg_words.specs.Asks.{AsksSearch, asked_in, asks_of, fault_in, files_in, options_in, pace_in, search_or}
 use Rattle.pg_words.specs.Asks.{texts_in}
-use Rattle.pg_words.specs.Found.{AreSources, Flags, IsFound}
-use Rattle.pg_words.specs.Gives.{IsFault, IsRefusal}
+use Rattle.pg_words.specs.Found.{AreSources, Flags, IsOfUses}
+use Rattle.pg_words.specs.Gives.{IsWordsFault, IsRefusal}
 use Rattle.pg_words.specs.Joined.{asked, complete}
-use Rattle.pg_words.specs.Line.{Text, Use, Uses, is_given, table, values_of}
+use Rattle.pg_words.specs.Line.{Word, Use, Uses, is_given, table, values_of}
 use Rattle.pg_words.specs.Usage.{usage_fault}
 use Rattle.pg_words.specs.declared.operands.Sources.{Sources}
 use Rattle.pg_words.specs.declared.options.Options.{Options}
@@ -41,41 +41,41 @@ utf8_strings [] i d less = absurd (omega (arith, less))
 utf8_strings (part ∷ parts) zero d less = IsUtf8-string_bytes part
 utf8_strings (part ∷ parts) (suc i) d less = utf8_strings parts i d (omega (arith, less))
 
-ours : (ws : List Text) → All IsUtf8 ws → complete table ws ≡ true
+ours : (ws : List Word) → All IsUtf8 ws → complete table ws ≡ true
     → Reads (asked table ws) (fault_of our_app ws) (matches_of our_app ws) table
 ours ws utf8 whole =
     reads table ours_by_id (ascii_letters table table all_rows) (letter_ids table all_rows)
     (name_ids table all_rows) ws utf8 whole
 
 -- what was found, by the rows
-found_rows : (us : List Use) (f : Matches) → EachUse (IsRow table) us → rows_of f ≡ end_rows table us → IsFound us f
+found_rows : (us : List Use) (f : Matches) → EachUse (IsRow table) us → rows_of f ≡ end_rows table us → IsOfUses us f
 found_rows us f uses is = record {
-  flag = λ name e. subst (λ (o : Option Text). Flags o (is_given name us))
+  flag = λ name e. subst (λ (o : Option Word). Flags o (is_given name us))
       (ap (one_of name) (sym is) ∙ sym (one_text-rows f name)) (flag_named table all_rows us uses name e);
   number = λ name low high e. one_text-rows f name
       ∙ (ap (one_of name) is ∙ number_named table all_rows us uses name low high e);
   fit = λ name v e t last. value_fits table all_rows us uses name v e t last;
-  texts = λ name e. ap (λ (o : Option (List Text)). unwrap_or o []) (raw_values-rows f name ∙ ap (all_of name) is)
+  texts = λ name e. ap (λ (o : Option (List Word)). unwrap_or o []) (raw_values-rows f name ∙ ap (all_of name) is)
       ∙ texts_named table all_rows us uses name e;
-  operands = ap (λ (o : Option (List Text)). unwrap_or o [])
+  operands = ap (λ (o : Option (List Word)). unwrap_or o [])
       (raw_values-rows f (codes "operands") ∙ ap (all_of (codes "operands")) is)
       ∙ operands_named table all_rows us uses;
 }
 
 -- a parse that found no fault gives what was asked
-pub gives : (ws : List Text) (f : Matches) → All IsUtf8 ws → complete table ws ≡ true → fault_of our_app ws ≡ []
-    → rows_of f ≡ matches_of our_app ws → (us : List Use) × (asked table ws ≡ Some us) × IsFound us f
+pub gives : (ws : List Word) (f : Matches) → All IsUtf8 ws → complete table ws ≡ true → fault_of our_app ws ≡ []
+    → rows_of f ≡ matches_of our_app ws → (us : List Use) × (asked table ws ≡ Some us) × IsOfUses us f
 gives ws f utf8 whole none rows = go (asked table ws) refl (ours ws utf8 whole)
     (asked_each (IsRow table) table ws all_rows)
   where
     go : (U : Uses) → asked table ws ≡ U → Reads U (fault_of our_app ws) (matches_of our_app ws) table
         → EachOf (IsRow table) U
-        → (us : List Use) × (asked table ws ≡ Some us) × IsFound us f
+        → (us : List Use) × (asked table ws ≡ Some us) × IsOfUses us f
     go None is h each = absurd (true≢false (sym h ∙ ap has_fault none))
     go (Some us) is h each = (us, is, found_rows us f each (rows ∙ h.1))
 
 -- and one that found a fault was refused
-pub refuses : (ws : List Text) → All IsUtf8 ws → complete table ws ≡ true → (fault_of our_app ws ≡ [] → ⊥)
+pub refuses : (ws : List Word) → All IsUtf8 ws → complete table ws ≡ true → (fault_of our_app ws ≡ [] → ⊥)
     → asked table ws ≡ None
 refuses ws utf8 whole some = go (asked table ws) (ours ws utf8 whole)
   where
@@ -83,16 +83,16 @@ refuses ws utf8 whole some = go (asked table ws) (ours ws utf8 whole)
     go None h = refl
     go (Some us) h = absurd (some h.0)
 
-pub refused_words : (U : Uses) (told : WordsFault) → IsRefusal told → U ≡ None → IsFault (asks_of U) told
+pub refused_words : (U : Uses) (told : WordsFault) → IsRefusal told → U ≡ None → IsWordsFault (asks_of U) told
 refused_words U (fault.Refused text) is none = ap asks_of none
 refused_words U (fault.Usage usage) is none = absurd is
 refused_words U fault.OutOfMemory is none = tt
 
-pub out_of_memory : (U : Uses) (told : WordsFault) → told ≡ fault.OutOfMemory → IsFault (asks_of U) told
-out_of_memory U told is = subst (IsFault (asks_of U)) (sym is) tt
+pub out_of_memory : (U : Uses) (told : WordsFault) → told ≡ fault.OutOfMemory → IsWordsFault (asks_of U) told
+out_of_memory U told is = subst (IsWordsFault (asks_of U)) (sym is) tt
 
 -- what a flag's getter answers
-pub flag_is : (o : Option Text) (b given : Bool) → (o ≡ None → b ≡ false) → (o ≡ Some (codes "true") → b ≡ true)
+pub flag_is : (o : Option Word) (b given : Bool) → (o ≡ None → b ≡ false) → (o ≡ Some (codes "true") → b ≡ true)
     → (o ≡ Some (codes "false") → b ≡ false) → Flags o given → b ≡ given
 flag_is o b true none on off h = on h
 flag_is o b false none on off h = ⊎_elim none off h

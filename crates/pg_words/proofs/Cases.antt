@@ -11,7 +11,8 @@ use Rattle.clap.specs.Walk.{attached_value}
 use Rattle.clap.proofs.LexerLemmas.{name_and_value-without}
 use Rattle.clap.proofs.WalkLemmas.{both}
 use Rattle.pg_words.specs.Joined.{case_letters, letter, letters, long, long_word, short_word, takes_value, word}
-use Rattle.pg_words.specs.Line.{Text, Opt, Use, Given, Operand, Uses, by_letter, by_name, case_after, case_by, fits}
+use Rattle.pg_words.specs.Line.{Word, Opt, Use, Given, Operand, Uses, by_letter, by_name, case_after, case_by}
+use Rattle.pg_words.specs.Line.{fits_value}
 use Rattle.pg_words.specs.Line.{has_value, table, then_uses, valued}
 use Rattle.pg_words.proofs.Found.{find_holds}
 use Rattle.pg_words.proofs.Joins.{lacks}
@@ -34,10 +35,10 @@ same_is false true e = cc
 same_is false false e = refl
 
 -- nothing is said
-abbrev is_silent : Text → Bool
+abbrev is_silent : Word → Bool
 is_silent name = case_by name true && same (case_by name false) false
 
-abbrev by_its_letter : Option ℕ → Text → Bool
+abbrev by_its_letter : Option ℕ → Word → Bool
 by_its_letter None name = true
 by_its_letter (Some letter) name = case_by name true && same (case_by name false) (letter == 105)
 
@@ -49,7 +50,7 @@ is_told o = by_its_letter o.letter o.name && (cond (has_value o) (is_silent o.na
 all_told : list_all is_told table ≡ true
 all_told = refl
 
-silent_is : (name : Text) (b : Bool) → is_silent name ≡ true → case_by name b ≡ b
+silent_is : (name : Word) (b : Bool) → is_silent name ≡ true → case_by name b ≡ b
 silent_is name true e = (both (case_by name true) (same (case_by name false) false) e).0
 silent_is name false e =
     same_is (case_by name false) false (both (case_by name true) (same (case_by name false) false) e).1
@@ -77,7 +78,7 @@ module _ (o : Opt) (told : is_told o ≡ true) where
       let parts = both _ _ parts_told.1 in
       silent_is o.name b (ap (λ (v : Bool). cond v (is_silent o.name) true) (sym has) ∙ parts.0)
 
-  other_says : (name : Text) (b : Bool) (others : List Text)
+  other_says : (name : Word) (b : Bool) (others : List Word)
       → list_all (λ other. is_silent other && is_silent o.name) others ≡ true
       → list_any (λ other. bytes_eq other name) others ≡ true → case_by o.name b ≡ case_by name b
   other_says name b [] all any = cc
@@ -91,24 +92,24 @@ module _ (o : Opt) (told : is_told o ≡ true) where
           → (list_any (λ x. bytes_eq x name) others ≡ true → case_by o.name b ≡ case_by name b)
           → case_by o.name b ≡ case_by name b
       go true is silent any later = silent_is o.name b silent.1
-          ∙ sym (ap (λ (t : Text). case_by t b) (sym ((bytes_eq-Decides other name).0 is)) ∙ silent_is other b silent.0)
+          ∙ sym (ap (λ (t : Word). case_by t b) (sym ((bytes_eq-Decides other name).0 is)) ∙ silent_is other b silent.0)
       go false is silent any later = later any
 
-  name_says : (name : Text) (b : Bool)
+  name_says : (name : Word) (b : Bool)
       → (bytes_eq o.name name || list_any (λ other. bytes_eq other name) o.others) ≡ true
       → case_by o.name b ≡ case_by name b
   name_says name b e = go (bytes_eq o.name name) refl e
     where
       go : (d : Bool) → bytes_eq o.name name ≡ d → (d || list_any (λ other. bytes_eq other name) o.others) ≡ true
           → case_by o.name b ≡ case_by name b
-      go true is e = ap (λ (t : Text). case_by t b) ((bytes_eq-Decides o.name name).0 is)
+      go true is e = ap (λ (t : Word). case_by t b) ((bytes_eq-Decides o.name name).0 is)
       go false is e = other_says name b o.others (both _ _ parts_told.1).1 e
 
 -- ---- what a word says
 
-valued_says : (o : Opt) (v : Text) (us : List Use) (before : Bool) → is_told o ≡ true → has_value o ≡ true
+valued_says : (o : Opt) (v : Word) (us : List Use) (before : Bool) → is_told o ≡ true → has_value o ≡ true
     → valued o v ≡ Some us → case_after us before ≡ before
-valued_says o v us before told has e = go (fits o.value v) e
+valued_says o v us before told has e = go (fits_value o.value v) e
   where
     go : (b : Bool) → cond b (Some (Given o v ∷ [])) None ≡ Some us → case_after us before ≡ before
     go true e = ap (λ (l : List Use). case_after l before) (sym (some_is (Given o v ∷ []) us e))
@@ -124,7 +125,7 @@ or_or true b d = refl
 or_or false true d = refl
 or_or false false d = refl
 
-module _ (x : ℕ) (rest : Text) (us : List Use) (before : Bool) where
+module _ (x : ℕ) (rest : Word) (us : List Use) (before : Bool) where
   letter_tells : (f : Option Opt) → by_letter table x ≡ f
       → ((vs : List Use) (b : Bool) → letters table rest ≡ Some vs → case_after vs b ≡ (b || case_letters rest))
       → letter f rest (letters table rest) ≡ Some us
@@ -134,7 +135,7 @@ module _ (x : ℕ) (rest : Text) (us : List Use) (before : Bool) where
       let here : Opt → Bool = λ p. option_map_or (λ letter. letter == x) p.letter false in
       go (has_value o) refl (found_passes is_told here table o all_told is) (find_holds here table o is) e
     where
-      attached : (v : Option Text) → is_told o ≡ true → has_value o ≡ true → option_and_then (valued o) v ≡ Some us
+      attached : (v : Option Word) → is_told o ≡ true → has_value o ≡ true → option_and_then (valued o) v ≡ Some us
           → case_after us before ≡ before
       attached None told has e = cc
       attached (Some v) told has e = valued_says o v us before told has e
@@ -159,14 +160,14 @@ module _ (x : ℕ) (rest : Text) (us : List Use) (before : Bool) where
       go true has told found e = attached (attached_value rest) told has e ∙ or_false before
       go false has told found e = flag (letters table rest) refl told found e
 
-letters_say : (flags : Text) (us : List Use) (before : Bool) → letters table flags ≡ Some us
+letters_say : (flags : Word) (us : List Use) (before : Bool) → letters table flags ≡ Some us
     → case_after us before ≡ (before || case_letters flags)
 letters_say [] us before e =
     ap (λ (l : List Use). case_after l before) (sym (some_is [] us e)) ∙ or_false before
 letters_say (x ∷ rest) us before e =
     letter_tells x rest us before (by_letter table x) refl (λ vs b is. letters_say rest vs b is) e
 
-long_says : (f : Option Opt) (name : Text) (v : Option Text) (us : List Use) (before : Bool) → by_name table name ≡ f
+long_says : (f : Option Opt) (name : Word) (v : Option Word) (us : List Use) (before : Bool) → by_name table name ≡ f
     → (v ≡ None → case_by name before ≡ before) → long f v ≡ Some us → case_after us before ≡ before
 long_says None name v us before is other e = cc
 long_says (Some o) name None us before is other e = go (has_value o) e
@@ -189,30 +190,30 @@ long_says (Some o) name (Some v) us before is other e = go (has_value o) refl e
     go false has e = cc
 
 -- a word behind two hyphens
-pub long_has : (w : Text) (p : Text × Option Text) → long_of w ≡ Some p → (x : ℕ) × (t : Text) × (w ≡ 45 ∷ 45 ∷ x ∷ t)
+pub long_has : (w : Word) (p : Word × Option Word) → long_of w ≡ Some p → (x : ℕ) × (t : Word) × (w ≡ 45 ∷ 45 ∷ x ∷ t)
     × (p ≡ name_and_value (x ∷ t))
 long_has [] p e = cc
 long_has (d ∷ w) p e = go w (d == 45) refl e
   where
-    go : (w : Text) (b : Bool) → (d == 45) ≡ b
+    go : (w : Word) (b : Bool) → (d == 45) ≡ b
         → option_and_then long_of_rest (option_and_then (strip_byte 45) (cond b (Some w) None)) ≡ Some p
-        → (x : ℕ) × (t : Text) × (d ∷ w ≡ 45 ∷ 45 ∷ x ∷ t) × (p ≡ name_and_value (x ∷ t))
+        → (x : ℕ) × (t : Word) × (d ∷ w ≡ 45 ∷ 45 ∷ x ∷ t) × (p ≡ name_and_value (x ∷ t))
     go w false is e = cc
     go [] true is e = cc
     go (y ∷ w) true is e = second w (y == 45) refl e
       where
-        second : (w : Text) (b : Bool) → (y == 45) ≡ b → option_and_then long_of_rest (cond b (Some w) None) ≡ Some p
-            → (x : ℕ) × (t : Text) × (d ∷ y ∷ w ≡ 45 ∷ 45 ∷ x ∷ t) × (p ≡ name_and_value (x ∷ t))
+        second : (w : Word) (b : Bool) → (y == 45) ≡ b → option_and_then long_of_rest (cond b (Some w) None) ≡ Some p
+            → (x : ℕ) × (t : Word) × (d ∷ y ∷ w ≡ 45 ∷ 45 ∷ x ∷ t) × (p ≡ name_and_value (x ∷ t))
         second w false too e = cc
         second [] true too e = cc
         second (x ∷ t) true too e = (
           x,
           t,
           ap (λ (n : ℕ). n ∷ y ∷ x ∷ t) (eqb-true d 45 is) ∙ ap (λ (n : ℕ). 45 ∷ n ∷ x ∷ t) (eqb-true y 45 too),
-          ap (λ (o : Option (Text × Option Text)). unwrap_or o p) (sym e),
+          ap (λ (o : Option (Word × Option Word)). unwrap_or o p) (sym e),
         )
 
-no_value : (t : Text) → (name_and_value t).1 ≡ None → has_byte 61 t ≡ false
+no_value : (t : Word) → (name_and_value t).1 ≡ None → has_byte 61 t ≡ false
 no_value t e = go (has_byte 61 t) refl e
   where
     go : (b : Bool) → has_byte 61 t ≡ b → cond b (Some (after_first (λ y. y == 61) t)) None ≡ None
@@ -221,51 +222,51 @@ no_value t e = go (has_byte 61 t) refl e
     go false is e = is
 
 -- a name that is neither
-other_name : (t : Text) (before : Bool) → bytes_eq t (codes "ignore-case") ≡ false
+other_name : (t : Word) (before : Bool) → bytes_eq t (codes "ignore-case") ≡ false
     → bytes_eq t (codes "no-ignore-case") ≡ false → case_by t before ≡ before
 other_name t before first second = rw (first, second) refl
 
-abbrev pub case_short : Option Text → Bool
+abbrev pub case_short : Option Word → Bool
 case_short None = false
 case_short (Some flags) = case_letters flags
 
-module _ (w : Text) (us : List Use) (before : Bool) (on : bytes_eq w (codes "--ignore-case") ≡ false)
+module _ (w : Word) (us : List Use) (before : Bool) (on : bytes_eq w (codes "--ignore-case") ≡ false)
     (off : bytes_eq w (codes "--no-ignore-case") ≡ false) where
-  long_word_says : (p : Text × Option Text) → long_of w ≡ Some p → long (by_name table p.0) p.1 ≡ Some us
+  long_word_says : (p : Word × Option Word) → long_of w ≡ Some p → long (by_name table p.0) p.1 ≡ Some us
       → case_after us before ≡ (before || case_short (short_of w))
   long_word_says p is e =
       let parts = long_has w p is in
       let x : ℕ = parts.0 in
-      let t : Text = parts.1 in
+      let t : Word = parts.1 in
       let looks : w ≡ 45 ∷ 45 ∷ x ∷ t = parts.2 in
       let pair : p ≡ name_and_value (x ∷ t) = parts.3 in
       let no_letters : short_of w ≡ None = ap short_of looks in
       let other : p.1 ≡ None → case_by p.0 before ≡ before = λ none.
-      ap (λ (q : Text × Option Text). case_by q.0 before) (pair ∙ name_and_value-without (x ∷ t)
-      (lacks (x ∷ t) (no_value (x ∷ t) (ap (λ (q : Text × Option Text). q.1) (sym pair) ∙ none))))
+      ap (λ (q : Word × Option Word). case_by q.0 before) (pair ∙ name_and_value-without (x ∷ t)
+      (lacks (x ∷ t) (no_value (x ∷ t) (ap (λ (q : Word × Option Word). q.1) (sym pair) ∙ none))))
       ∙ other_name (x ∷ t) before
-      (ap (λ (l : Text). bytes_eq l (codes "--ignore-case")) (sym looks) ∙ on)
-      (ap (λ (l : Text). bytes_eq l (codes "--no-ignore-case")) (sym looks) ∙ off) in
+      (ap (λ (l : Word). bytes_eq l (codes "--ignore-case")) (sym looks) ∙ on)
+      (ap (λ (l : Word). bytes_eq l (codes "--no-ignore-case")) (sym looks) ∙ off) in
       long_says (by_name table p.0) p.0 p.1 us before refl other e
-      ∙ (or_false before ∙ ap (λ (q : Option Text). before || case_short q) (sym no_letters))
+      ∙ (or_false before ∙ ap (λ (q : Option Word). before || case_short q) (sym no_letters))
 
   pub word_says : word table w ≡ Some us → case_after us before ≡ (before || case_short (short_of w))
   word_says e = go (long_of w) refl e
     where
-      short : (q : Option Text) → short_word table q w ≡ Some us
+      short : (q : Option Word) → short_word table q w ≡ Some us
           → case_after us before ≡ (before || case_short q)
       short None e = ap (λ (l : List Use). case_after l before) (sym (some_is (Operand w ∷ []) us e))
           ∙ or_false before
       short (Some flags) e = letters_say flags us before e
 
-      go : (q : Option (Text × Option Text)) → long_of w ≡ q → long_word table q w ≡ Some us
+      go : (q : Option (Word × Option Word)) → long_of w ≡ q → long_word table q w ≡ Some us
           → case_after us before ≡ (before || case_short (short_of w))
       go (Some p) is e = long_word_says p is e
       go None is e = short (short_of w) e
 
 -- ---- what words say
 
-operands_silent : (ws : List Text) (before : Bool) → case_after (map Operand ws) before ≡ before
+operands_silent : (ws : List Word) (before : Bool) → case_after (map Operand ws) before ≡ before
 operands_silent [] before = refl
 operands_silent (w ∷ ws) before = operands_silent ws before
 

@@ -11,7 +11,8 @@ use Rattle.std.proofs.lemmas.Slice.Eq.{bytes_eq-Decides}
 use Rattle.clap.specs.declared.builder.value_parser.Reading.{Reading}
 use Rattle.clap.specs.Lexer.{without_minus}
 use Rattle.clap.specs.Walk.{Row, Rule, Text, arg_by_id, with_default, one_of, all_of, reading_by}
-use Rattle.pg_words.specs.Line.{Value, Nothing, AnyText, Number, Opt, Use, Given, Operand, by_letter, by_name, fits}
+use Rattle.pg_words.specs.Line.{Value, Nothing, AnyText, Number, Opt, Use, Given, Operand, by_letter, by_name}
+use Rattle.pg_words.specs.Line.{fits_value}
 use Rattle.pg_words.specs.Line.{is_given}
 use Rattle.pg_words.specs.Line.{last_of, last_value, operands_of, own, some_text, values_of}
 use Rattle.pg_words.specs.Found.{Flags}
@@ -171,13 +172,13 @@ each_use P Q f (Operand v ∷ us) each = each_use P Q f us each
 -- the texts fit
 abbrev AllFit : Value → List Text → Type 0
 AllFit val [] = Unit {0}
-AllFit val (v ∷ vs) = (fits val v ≡ true) × AllFit val vs
+AllFit val (v ∷ vs) = (fits_value val v ≡ true) × AllFit val vs
 
 last_fits : (val : Value) (vs : List Text) (before : Option Text) (v : Text) → AllFit val vs
-    → ((w : Text) → before ≡ Some w → fits val w ≡ true) → last_of vs before ≡ Some v → fits val v ≡ true
+    → ((w : Text) → before ≡ Some w → fits_value val w ≡ true) → last_of vs before ≡ Some v → fits_value val v ≡ true
 last_fits val [] before v all first e = first v e
 last_fits val (x ∷ vs) before v all first e = last_fits val vs (Some x) v all.1
-    (λ w is. ap (fits val) (ap (λ (q : Option Text). unwrap_or q w) (sym is)) ∙ all.0) e
+    (λ w is. ap (fits_value val) (ap (λ (q : Option Text). unwrap_or q w) (sym is)) ∙ all.0) e
 
 pub find_holds : (q : Opt → Bool) (os : List Opt) (o : Opt) → find q os ≡ Some o → q o ≡ true
 find_holds q [] o e = cc
@@ -254,7 +255,7 @@ module _ (os : List Opt) (each : EachOpt (IsRow os) os) (us : List Use) (uses : 
     where
       go : (b : Bool) → bytes_eq x.name o.name ≡ b → AllFit o.value (values_of o.name vs)
           → AllFit o.value (cond b (v ∷ values_of o.name vs) (values_of o.name vs))
-      go true e later = (ap (λ (y : Opt). fits y.value v) (sym (same_row os x o here.0 row e)) ∙ here.1, later)
+      go true e later = (ap (λ (y : Opt). fits_value y.value v) (sym (same_row os x o here.0 row e)) ∙ here.1, later)
       go false e later = later
   all_fit o row (Operand v ∷ vs) here = all_fit o row vs here
 
@@ -298,10 +299,10 @@ module _ (os : List Opt) (each : EachOpt (IsRow os) os) (us : List Use) (uses : 
       (number_for at.0 at.0.value low high at.3 at.1)
 
   pub value_fits : (name : Text) (val : Value) → option_map (λ o. o.value) (own os name) ≡ Some val
-      → (v : Text) → last_value name us ≡ Some v → fits val v ≡ true
+      → (v : Text) → last_value name us ≡ Some v → fits_value val v ≡ true
   value_fits name val e v last =
       let at = behind_is name val e in
-      ap (λ (x : Value). fits x v) (sym at.3) ∙ last_fits at.0.value (values_of at.0.name us) None v
+      ap (λ (x : Value). fits_value x v) (sym at.3) ∙ last_fits at.0.value (values_of at.0.name us) None v
       (all_fit at.0 at.1 us uses)
       (λ w is. cc) (ap (λ (t : Text). last_value t us) at.2 ∙ last)
 

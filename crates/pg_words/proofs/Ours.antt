@@ -7,13 +7,13 @@ use Rattle.std.proofs.lemmas.Slice.Eq.{bytes_eq-Decides}
 use Rattle.clap.proofs.WalkLemmas.{both}
 use Rattle.clap.proofs.SimpleLemmas.{is_false}
 use Rattle.pg_words.specs.Joined.{letter_takes_value, takes_value}
-use Rattle.pg_words.specs.Line.{Text, Opt, own, table}
+use Rattle.pg_words.specs.Line.{Word, Opt, own, table}
 use Rattle.pg_words.proofs.Found.{IsRow, ascii_letters}
 use Rattle.pg_words.proofs.Uses.{EachOpt}
 use Rattle.pg_words.proofs.Walks.{lt_or_le}
 
 -- none of the options has this name
-abbrev none_called : Text → List Opt → Bool
+abbrev none_called : Word → List Opt → Bool
 none_called name [] = true
 none_called name (o ∷ os) = not (bytes_eq name o.name) && none_called name os
 

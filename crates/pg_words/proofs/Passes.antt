@@ -9,7 +9,7 @@ use Rattle.std.proofs.lemmas.List.{drop_all}
 use Rattle.std.proofs.lemmas.List.Sums.{take_while-cons}
 use Rattle.clap.proofs.WalkLemmas.{both}
 use Rattle.pg_words.specs.Joined.{asked, word}
-use Rattle.pg_words.specs.Line.{Text, Opt, Operand, Use, Uses, is_mark, table, then_uses}
+use Rattle.pg_words.specs.Line.{Word, Opt, Operand, Use, Uses, is_mark, table, then_uses}
 
 pub some_is : (us vs : List Use) → Some us ≡ Some vs → us ≡ vs
 some_is us vs e = ap (λ (o : Uses). unwrap_or o us) e
@@ -28,7 +28,7 @@ found_passes p q (x ∷ os) o all e = go (q x) (both (p x) (list_all p os) all) 
 -- what is said after these uses, by what was said before them; operands say nothing
 pub record IsPass (A : Type 0) (after : List Use → A → A) : Type 0 where
   pub both : (us vs : List Use) (before : A) → after (us ++ vs) before ≡ after vs (after us before)
-  pub operands : (ws : List Text) (before : A) → after (map Operand ws) before ≡ before
+  pub operands : (ws : List Word) (before : A) → after (map Operand ws) before ≡ before
   pub nothing : (before : A) → after [] before ≡ before
 
 module _ {A : Type 0} (after : List Use → A → A) where
@@ -58,7 +58,7 @@ module _ {A : Type 0} {after : List Use → A → A} (pass : IsPass A after) whe
   said_next (Some us) (Some vs) later so_far is = is (after us so_far) ∙ ap Some (sym (pass.both us vs so_far))
 
   -- operands behind the mark say nothing
-  to_mark : (b : Bool) (before : List (String Global)) (U : Uses) (ws : List Text) (so_far : A)
+  to_mark : (b : Bool) (before : List (String Global)) (U : Uses) (ws : List Word) (so_far : A)
       → said_behind after before so_far ≡ said_by after U so_far
       → said_behind after (cond (not b) before []) so_far ≡ said_by after (cond b (Some (map Operand ws)) U) so_far
   to_mark true before U ws so_far is = ap Some (sym (pass.operands ws so_far))
@@ -81,7 +81,7 @@ module _ {A : Type 0} {after : List Use → A → A} (pass : IsPass A after) whe
     says = λ us all. rw is (before_mark words start ∙ ap (λ (U : Uses). said_by after U start) all);
   }
 
-  pub one_more : {start so_far more : A} {words before : List (String Global)} {i : ℕ} {d : String Global} {w : Text}
+  pub one_more : {start so_far more : A} {words before : List (String Global)} {i : ℕ} {d : String Global} {w : Word}
       → Goes after start words before i so_far → i < length before → d ≡ get_or before i d → w ≡ string_bytes d
       → ((us : List Use) → word table w ≡ Some us → more ≡ after us so_far) → Goes after start words before (i + 1) more
   one_more {start} {so_far} {more} {words} {before} {i} {d} {w} goes within item text says = record {

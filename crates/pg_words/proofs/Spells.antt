@@ -7,8 +7,8 @@ use Rattle.std.specs.String.{string_bytes}
 use Rattle.std.proofs.lemmas.List.{drop_all}
 use Rattle.std.specs.Char.{is_ascii_digit}
 use Rattle.clap.proofs.WalkLemmas.{both}
-use Rattle.pg_words.specs.Joined.{Place, Free, Rest, ValueOf, waits}
-use Rattle.pg_words.specs.Line.{Text, by_letter, is_mark, table}
+use Rattle.pg_words.specs.Joined.{NextWord, Free, Rest, ValueOf, waits}
+use Rattle.pg_words.specs.Line.{Word, by_letter, is_mark, table}
 use Rattle.pg_words.specs.Spelled.{full_word, is_flag, letter_words, newer_letter}
 use Rattle.pg_words.specs.Spelled.{place_behind}
 use Rattle.pg_words.specs.Spelled.{spelled_from, spelled_word}
@@ -18,8 +18,8 @@ use Rattle.pg_words.proofs.Walks.{lt_or_le}
 
 -- ---- one word more
 
-module _ (before after rest : List Text) (w : Text) where
-  pub spell_value : (o : Text) → after ≡ before ++ w ∷ []
+module _ (before after rest : List Word) (w : Word) where
+  pub spell_value : (o : Word) → after ≡ before ++ w ∷ []
       → after ++ spelled_from table Free rest ≡ before ++ spelled_from table (ValueOf o) (w ∷ rest)
   unfolding spelled_from
   spell_value o is = rw (is, append_assoc) refl
@@ -34,27 +34,27 @@ module _ (before after rest : List Text) (w : Text) where
   unfolding spelled_from
   spell_mark mark is = rw (is, append_assoc, mark) refl
 
-  pub spell_free : (next : Place) → is_mark w ≡ false
+  pub spell_free : (next : NextWord) → is_mark w ≡ false
       → (next ≡ place_behind table w) × (after ≡ before ++ spelled_word table (full_word table w))
       → after ++ spelled_from table next rest ≡ before ++ spelled_from table Free (w ∷ rest)
   unfolding spelled_from
   spell_free next mark adds = rw (adds.1, append_assoc, mark, adds.0) refl
 
-  pub spell_full : (full : Text) → full ≡ full_word table w → after ≡ before ++ spelled_word table full
+  pub spell_full : (full : Word) → full ≡ full_word table w → after ≡ before ++ spelled_word table full
       → after ≡ before ++ spelled_word table (full_word table w)
-  spell_full full in_full is = is ∙ ap (λ (t : Text). before ++ spelled_word table t) in_full
+  spell_full full in_full is = is ∙ ap (λ (t : Word). before ++ spelled_word table t) in_full
 
 -- what follows a word, by the word in full
-pub value_behind : (w full : Text) → full ≡ full_word table w → waits table full ≡ true
+pub value_behind : (w full : Word) → full ≡ full_word table w → waits table full ≡ true
     → ValueOf w ≡ place_behind table w
 value_behind w full in_full waiting =
     sym (ap (λ (b : Bool). cond b (ValueOf w) Free) (ap (waits table) (sym in_full) ∙ waiting))
 
-pub free_behind : (w full : Text) → full ≡ full_word table w → waits table full ≡ false → Free ≡ place_behind table w
+pub free_behind : (w full : Word) → full ≡ full_word table w → waits table full ≡ false → Free ≡ place_behind table w
 free_behind w full in_full waiting =
     sym (ap (λ (b : Bool). cond b (ValueOf w) Free) (ap (waits table) (sym in_full) ∙ waiting))
 
-pub none_left : (next : Place) → spelled_from table next [] ≡ []
+pub none_left : (next : NextWord) → spelled_from table next [] ≡ []
 unfolding spelled_from
 none_left Free = refl
 none_left (ValueOf o) = refl
@@ -99,23 +99,23 @@ own_word_low x e = go (is_ascii_digit x) refl e
     go true is e = digit_low x is
     go false is e = older_low x (newer_low x e)
 
-pub letter_kept : (letters w : Text) (at d : ℕ) (old new first : List Text) (digits more : Text)
+pub letter_kept : (letters w : Word) (at d : ℕ) (old new first : List Word) (digits more : Word)
     → at < length letters
-    → ((word rest : Text) → new ++ letter_words table word more rest
+    → ((word rest : Word) → new ++ letter_words table word more rest
     ≡ old ++ letter_words table word digits (get_or letters at d ∷ rest))
     → old ++ letter_words table w digits (drop at letters) ≡ first
     → new ++ letter_words table w more (drop (at + 1) letters) ≡ first
 letter_kept letters w at d old new first digits more within step before =
     let here : drop at letters ≡ get_or letters at d ∷ drop (at + 1) letters =
     rw (add-one, drop-cons letters at d within) refl in
-    step w (drop (at + 1) letters) ∙ (ap (λ (t : Text). old ++ letter_words table w digits t) (sym here) ∙ before)
+    step w (drop (at + 1) letters) ∙ (ap (λ (t : Word). old ++ letter_words table w digits t) (sym here) ∙ before)
 
 -- ---- the letters of a word
 
 -- at the end no word is left
-pub all_spelled : (words : List (String Global)) (i : ℕ) (parts all : List Text) (next : Place) → length words ≤ i
+pub all_spelled : (words : List (String Global)) (i : ℕ) (parts all : List Word) (next : NextWord) → length words ≤ i
     → parts ++ spelled_from table next (map string_bytes (drop i words)) ≡ all → parts ≡ all
 all_spelled words i parts all next past so_far =
-    sym (append-nil parts) ∙ (ap (λ (l : List Text). parts ++ l) (sym (none_left next))
+    sym (append-nil parts) ∙ (ap (λ (l : List Word). parts ++ l) (sym (none_left next))
     ∙ (ap (λ (l : List (String Global)). parts ++ spelled_from table next (map string_bytes l))
     (sym (drop_all i words past)) ∙ so_far))

@@ -3,9 +3,9 @@ use Rattle.std.proofs.Common.{◌≡◌, refl, true, false, Bool, List, [], ◌�
 use Rattle.std.proofs.Common.{option_and_then}
 use Rattle.clap.specs.Lexer.{long_of, short_of}
 use Rattle.clap.specs.Walk.{attached_value}
-use Rattle.pg_words.specs.Line.{Text, Value, Nothing, AnyText, Number, Opt, Use, Given, Operand, Uses, by_letter}
+use Rattle.pg_words.specs.Line.{Word, Value, Nothing, AnyText, Number, Opt, Use, Given, Operand, Uses, by_letter}
 use Rattle.pg_words.specs.Line.{by_name}
-use Rattle.pg_words.specs.Line.{fits, has_value, is_mark, then_uses, valued}
+use Rattle.pg_words.specs.Line.{fits_value, has_value, is_mark, then_uses, valued}
 use Rattle.pg_words.specs.Joined.{asked, letter, letters, long, long_word, short_word, word}
 
 abbrev pub EachOpt : (Opt → Type 0) → List Opt → Type 0
@@ -14,7 +14,7 @@ EachOpt P (o ∷ os) = P o × EachOpt P os
 
 abbrev pub EachUse : (Opt → Type 0) → List Use → Type 0
 EachUse P [] = Unit {0}
-EachUse P (Given o v ∷ us) = P o × (fits o.value v ≡ true) × EachUse P us
+EachUse P (Given o v ∷ us) = P o × (fits_value o.value v ≡ true) × EachUse P us
 EachUse P (Operand v ∷ us) = EachUse P us
 
 abbrev pub EachOf : (Opt → Type 0) → Uses → Type 0
@@ -44,10 +44,10 @@ module _ (P : Opt → Type 0) where
   then_each (Some us) None a b = tt
   then_each (Some us) (Some vs) a b = appended us vs a b
 
-  valued_each : (o : Opt) (v : Text) → P o → EachOf P (valued o v)
-  valued_each o v p = go (fits o.value v) refl
+  valued_each : (o : Opt) (v : Word) → P o → EachOf P (valued o v)
+  valued_each o v p = go (fits_value o.value v) refl
     where
-      go : (b : Bool) → fits o.value v ≡ b → EachOf P (cond b (Some (Given o v ∷ [])) None)
+      go : (b : Bool) → fits_value o.value v ≡ b → EachOf P (cond b (Some (Given o v ∷ [])) None)
       go true e = (p, e, tt)
       go false e = tt
 
@@ -55,22 +55,22 @@ module _ (P : Opt → Type 0) where
   if_each true U V a c = a
   if_each false U V a c = c refl
 
-  flag_fits : (o : Opt) (v : Value) → has_value (record o { value = v }) ≡ false → fits v [] ≡ true
+  flag_fits : (o : Opt) (v : Value) → has_value (record o { value = v }) ≡ false → fits_value v [] ≡ true
   flag_fits o Nothing e = refl
   flag_fits o AnyText e = refl
   flag_fits o (Number low high) e = cc
 
-  long_each : (f : Option Opt) (v : Option Text) → ForSome P f → EachOf P (long f v)
+  long_each : (f : Option Opt) (v : Option Word) → ForSome P f → EachOf P (long f v)
   long_each None v p = tt
   long_each (Some o) None p = if_each (has_value o) None (Some (Given o [] ∷ [])) tt
       (λ e. (p, flag_fits o o.value e, tt))
   long_each (Some o) (Some v) p = if_each (has_value o) (valued o v) None (valued_each o v p) (λ e. tt)
 
-  attached_each : (o : Opt) (v : Option Text) → P o → EachOf P (option_and_then (valued o) v)
+  attached_each : (o : Opt) (v : Option Word) → P o → EachOf P (option_and_then (valued o) v)
   attached_each o None p = tt
   attached_each o (Some v) p = valued_each o v p
 
-  letter_each : (f : Option Opt) (rest : Text) (next : Uses) → ForSome P f → EachOf P next
+  letter_each : (f : Option Opt) (rest : Word) (next : Uses) → ForSome P f → EachOf P next
       → EachOf P (letter f rest next)
   letter_each None rest next p later = tt
   letter_each (Some o) rest next p later =
@@ -78,24 +78,24 @@ module _ (P : Opt → Type 0) where
       (attached_each o (attached_value rest) p)
       (λ e. then_each (Some (Given o [] ∷ [])) next (p, flag_fits o o.value e, tt) later)
 
-  letters_each : (os : List Opt) (flags : Text) → EachOpt P os → EachOf P (letters os flags)
+  letters_each : (os : List Opt) (flags : Word) → EachOpt P os → EachOf P (letters os flags)
   letters_each os [] each = tt
   letters_each os (x ∷ rest) each =
       letter_each (by_letter os x) rest (letters os rest) (found _ os each) (letters_each os rest each)
 
-  short_each : (os : List Opt) (q : Option Text) (w : Text) → EachOpt P os → EachOf P (short_word os q w)
+  short_each : (os : List Opt) (q : Option Word) (w : Word) → EachOpt P os → EachOf P (short_word os q w)
   short_each os (Some flags) w each = letters_each os flags each
   short_each os None w each = tt
 
-  word_each : (os : List Opt) (q : Option (Text × Option Text)) (w : Text) → EachOpt P os → EachOf P (long_word os q w)
+  word_each : (os : List Opt) (q : Option (Word × Option Word)) (w : Word) → EachOpt P os → EachOf P (long_word os q w)
   word_each os (Some p) w each = long_each (by_name os p.0) p.1 (found _ os each)
   word_each os None w each = short_each os (short_of w) w each
 
-  operands_each : (ws : List Text) → EachUse P (map Operand ws)
+  operands_each : (ws : List Word) → EachUse P (map Operand ws)
   operands_each [] = tt
   operands_each (w ∷ ws) = operands_each ws
 
-  pub asked_each : (os : List Opt) (ws : List Text) → EachOpt P os → EachOf P (asked os ws)
+  pub asked_each : (os : List Opt) (ws : List Word) → EachOpt P os → EachOf P (asked os ws)
   unfolding asked
   asked_each os [] each = tt
   asked_each os (w ∷ ws) each =

@@ -25,7 +25,7 @@ use Rattle.clap.proofs.SimpleLemmas.{is_false}
 use Rattle.pg_words.proofs.Rules.{frule, oprule, shape_with}
 use Rattle.pg_words.proofs.Waiting.{word_waits}
 use Rattle.pg_words.specs.Line.{is_mark, Value, Nothing, AnyText, Number, Opt, Use, Given, Operand, Uses, by_letter}
-use Rattle.pg_words.specs.Line.{by_name, has_value, fits, then_uses, valued}
+use Rattle.pg_words.specs.Line.{by_name, has_value, fits_value, then_uses, valued}
 use Rattle.pg_words.specs.Joined.{takes_value, word, long_word, short_word, long, letters, asked, waits, complete}
 use Rattle.pg_words.specs.Joined.{long_waits, letter, letters_wait, long_or_short_waits, short_waits}
 use Rattle.std.proofs.Math.Bool.{or-false}
@@ -38,14 +38,14 @@ no_repeat id rows = go (has_row id rows)
     go false = refl
 
 abbrev value_fault : Opt → Text → Kinds
-value_fault o v = cond (fits o.value v) [] (kind.ValueValidation ∷ [])
+value_fault o v = cond (fits_value o.value v) [] (kind.ValueValidation ∷ [])
 
 -- a use of an option with a value
 value_use : (o : Opt) (v : Value) (t : Text) (rows : List Row) → has_value (record o { value = v }) ≡ true
     → use_fault true (frule (record o { value = v })) (t ∷ []) rows ≡ value_fault (record o { value = v }) t
 value_use o Nothing t rows e = cc
 value_use o AnyText t rows e = refl
-value_use o (Number low high) t rows e = rw (no_repeat o.name rows) (go (fits (Number low high) t))
+value_use o (Number low high) t rows e = rw (no_repeat o.name rows) (go (fits_value (Number low high) t))
   where
     go : (b : Bool) → or_else (cond b [] (kind.ValueValidation ∷ [])) [] ≡ cond b [] (kind.ValueValidation ∷ [])
     go true = refl
@@ -213,7 +213,7 @@ module _ (os : List Opt) (c : List Rule) (id_is : arg_by_id c (codes "operands")
   valued_comes : (o : Opt) (t : Text) (R : List Row) (fault : Kinds) (after : Walk) → has_value o ≡ true → fault
       ≡ value_fault o t
       → after ≡ at (used (frule o) (t ∷ []) R) None false false → Comes (valued o t) fault after R
-  valued_comes o t R fault after has e is = go (fits o.value t) e
+  valued_comes o t R fault after has e is = go (fits_value o.value t) e
     where
       go : (b : Bool) → fault ≡ cond b [] (kind.ValueValidation ∷ [])
           → Comes (cond b (Some (Given o t ∷ [])) None) fault after R
@@ -296,7 +296,7 @@ module _ (os : List Opt) (c : List Rule) (id_is : arg_by_id c (codes "operands")
       valued_comes (record o { value = Number low high }) t (rows_at rows p) _ _ refl
       (ap (λ k. or_else k []) (react_at (frule (record o { value = Number low high })) (t ∷ []) rows p _
       (value_use o (Number low high) t (rows_at rows p) refl))
-      ∙ go (fits (Number low high) t))
+      ∙ go (fits_value (Number low high) t))
       (ap (λ (h : Held). at (used (frule (record o { value = Number low high })) (t ∷ []) h.rows) None false false)
       (settled_at rows p))
     where
@@ -322,7 +322,7 @@ module _ (os : List Opt) (c : List Rule) (id_is : arg_by_id c (codes "operands")
   valued_bundles : (o : Opt) (t : Text) (R : List Row) (fault : Kinds) (met : Held × Outcome) → has_value o ≡ true
       → fault ≡ value_fault o t
       → met ≡ (held_at (used (frule o) (t ∷ []) R) None, done) → Bundles done (valued o t) fault met R
-  valued_bundles o t R fault met has e is = go (fits o.value t) e
+  valued_bundles o t R fault met has e is = go (fits_value o.value t) e
     where
       go : (b : Bool) → fault ≡ cond b [] (kind.ValueValidation ∷ [])
           → Bundles done (cond b (Some (Given o t ∷ [])) None) fault met R

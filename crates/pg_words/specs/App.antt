@@ -9,7 +9,7 @@ use Rattle.clap.specs.declared.builder.action.ArgAction.TheVariants.{Set, Append
 use Rattle.clap.specs.declared.builder.action.ArgAction.{ArgAction}
 use Rattle.clap.specs.declared.builder.value_parser.ValueParser.{ValueParser}
 use Rattle.clap.specs.declared.builder.value_parser.ValueParser.TheVariants as vp
-use Rattle.pg_words.specs.Line.{Text, Value, Nothing, AnyText, Number, Opt, table}
+use Rattle.pg_words.specs.Line.{Word, Value, Nothing, AnyText, Number, Opt, table}
 use Rattle.pg_words.specs.Spelled.{begins}
 use Rattle.pg_words.specs.declared.command.OptionRow.{OptionRow}
 use Rattle.pg_words.specs.declared.command.OptionValue.{OptionValue}
@@ -79,14 +79,14 @@ parser_behind (behind.Number low high) = vp.Signed (pos low) (pos high)
 parser_behind behind.Itself = vp.String
 
 -- what is found by this name
-abbrev pub named_rule : OptionValue → Text → Rule
+abbrev pub named_rule : OptionValue → Word → Rule
 named_rule it name = record (new_rule name) {
   value_names = 1;
   action = Some (action_behind it);
   parser = Some (parser_behind it);
 }
 
-abbrev pub rule_by : Names → Text → OptionValue → Rule
+abbrev pub rule_by : Names → Word → OptionValue → Rule
 rule_by (names.Letter letter others) name it =
     record (named_rule it name) { long = Some name; short = Some letter; aliases = map (λ other. other.now) others.now }
 rule_by (names.Long others) name it =
@@ -111,7 +111,7 @@ has_letter row x = elim row.0 [
 ]
 
 -- the option goes by this long name
-abbrev pub has_name : OptionRow → Text → Bool
+abbrev pub has_name : OptionRow → Word → Bool
 has_name row name = elim row.0 [
   | names.Letter letter others ↦ bytes_eq row.1.now name || list_any (λ other. bytes_eq other.now name) others.now
   | names.Long others ↦ bytes_eq row.1.now name || list_any (λ other. bytes_eq other.now name) others.now
@@ -119,7 +119,7 @@ has_name row name = elim row.0 [
 ]
 
 -- a long name of the option begins so, and may be cut short
-abbrev pub has_begun_name : OptionRow → Text → Bool
+abbrev pub has_begun_name : OptionRow → Word → Bool
 has_begun_name row start =
     not (bytes_eq row.1.now (codes "always-spread"))
     && elim row.0 [

@@ -7,11 +7,11 @@ use Rattle.std.specs.Str.Parse.{digits_value, without_leading_sign}
 use Rattle.pg_rows.specs.Separator.{separator_for}
 use Rattle.pg_rows.specs.declared.format.Mode.{Mode}
 use Rattle.pg_words.specs.Asked.{Asked, Pace}
-use Rattle.pg_words.specs.Line.{Text, Use, Uses, filters_in, ignores_case, is_given, last_value, operands_of, some_text}
+use Rattle.pg_words.specs.Line.{Word, Use, Uses, filters_in, ignores_case, is_given, last_value, operands_of, some_text}
 use Rattle.pg_words.specs.Line.{separator_in, values_of}
 use Rattle.pg_words.specs.Operands.{searched}
 use Rattle.pg_words.specs.Spelled.{uses_in}
-use Rattle.pg_words.specs.Options.{format_of, given_modes, kind_of, modes, naming_of}
+use Rattle.pg_words.specs.Options.{format_of_options, given_modes, kind_of_options, modes, naming_of}
 use Rattle.pg_words.specs.Usage.{usage_fault}
 use Rattle.pg_words.specs.declared.options.DirectoryAction.{DirectoryAction}
 use Rattle.pg_words.specs.declared.options.DirectoryAction.TheVariants.{Read as ReadDirectories}
@@ -35,22 +35,22 @@ pub data Asks : Type 0 where
   IsRefused : Asks
 
 -- the last number that is given
-abbrev pub number_in : Text → List Use → Option ℕ
+abbrev pub number_in : Word → List Use → Option ℕ
 number_in name us = option_map (λ numeral. digits_value 10 (without_leading_sign numeral)) (last_value name us)
 
 -- a type of files other than text
-abbrev pub has_other_type : List Text → Bool
+abbrev pub has_other_type : List Word → Bool
 has_other_type names = list_any (λ name. not (bytes_eq name (codes "text"))) names
 
 -- what -d asks for, by its value (GNU grep's option, of which -r is the action `recurse`)
-abbrev pub directory_action : Text → Option DirectoryAction
+abbrev pub directory_action : Word → Option DirectoryAction
 directory_action v =
     if bytes_eq v (codes "read") then Some ReadDirectories
     else (if bytes_eq v (codes "skip") then Some SkipDirectories
     else (if bytes_eq v (codes "recurse") then Some Recurse else None))
 
 -- a value of -d that asks for nothing
-abbrev pub has_other_directory_action : List Text → Bool
+abbrev pub has_other_directory_action : List Word → Bool
 has_other_directory_action values = list_any (λ v. not (is_some (directory_action v))) values
 
 -- what is asked for by the last -d, -r or -R
@@ -72,31 +72,31 @@ skips_directories (Some SkipDirectories) = Bool.true
 skips_directories (Some Recurse) = Bool.false
 
 -- what -D asks for, by its value (GNU grep's option)
-abbrev pub device_action : Text → Option DeviceAction
+abbrev pub device_action : Word → Option DeviceAction
 device_action v =
     if bytes_eq v (codes "read") then Some Read else (if bytes_eq v (codes "skip") then Some Skip else None)
 
 -- a value of -D that asks for nothing
-abbrev pub has_other_action : List Text → Bool
+abbrev pub has_other_action : List Word → Bool
 has_other_action values = list_any (λ v. not (is_some (device_action v))) values
 
 -- the value is one of these words; case is ignored
-abbrev pub is_word_of : List Text → Text → Bool
+abbrev pub is_word_of : List Word → Word → Bool
 is_word_of words v = list_any (λ word. str_eq_ignore_ascii_case v word) words
 
 -- when rows are colored, by the value of --color (GNU grep's option)
-abbrev pub coloring_by : Text → Option Coloring
+abbrev pub coloring_by : Word → Option Coloring
 coloring_by v =
     if is_word_of (codes "always" ∷ codes "yes" ∷ codes "force" ∷ []) v then Some AlwaysColored
     else (if is_word_of (codes "never" ∷ codes "no" ∷ codes "none" ∷ []) v then Some NeverColored
     else (if is_word_of (codes "auto" ∷ codes "tty" ∷ codes "if-tty" ∷ []) v then Some OnTerminal else None))
 
 -- a value of --color that asks for nothing
-abbrev pub has_other_coloring : List Text → Bool
+abbrev pub has_other_coloring : List Word → Bool
 has_other_coloring values = list_any (λ v. not (is_some (coloring_by v))) values
 
 -- a text of --group-separator that no separator can hold
-abbrev pub has_long_separator : List Text → Bool
+abbrev pub has_long_separator : List Word → Bool
 has_long_separator values = list_any (λ v. not (is_some (separator_for v))) values
 
 -- what is asked for by the last --color; without it rows are never colored
@@ -104,7 +104,7 @@ abbrev pub coloring_in : List Use → Coloring
 coloring_in us = unwrap_or (option_and_then coloring_by (last_value (codes "color") us)) NeverColored
 
 -- the modes that options of a table ask for
-abbrev pub modes_given : List (Text × Mode) → List Use → List Mode
+abbrev pub modes_given : List (Word × Mode) → List Use → List Mode
 modes_given options us = map (λ option. option.1) (filter (λ option. is_given option.0 us) options)
 
 -- what is given of the options that say what is written of each file
@@ -145,16 +145,16 @@ abbrev pub gives_patterns : List Use → Bool
 gives_patterns us = some_text (values_of (codes "regexp") us) || some_text (values_of (codes "file") us)
 
 -- the -e texts; beside neither -e nor -f the first operand is PATTERN
-abbrev pub texts_in : List Use → List Text
+abbrev pub texts_in : List Use → List Word
 texts_in us = if gives_patterns us then values_of (codes "regexp") us else take 1 (operands_of us)
 
 -- each FILE
-abbrev pub files_in : List Use → List Text
+abbrev pub files_in : List Use → List Word
 files_in us = if gives_patterns us then operands_of us else drop 1 (operands_of us)
 
 abbrev pub asked_in : List Use → Asked
 asked_in us = record {
-  kind = kind_of (options_in us);
+  kind = kind_of_options (options_in us);
   texts = texts_in us;
   pattern_files = values_of (codes "file") us;
   fold = ignores_case us;
@@ -163,7 +163,7 @@ asked_in us = record {
   invert = is_given (codes "invert-match") us;
   zero = is_given (codes "null-data") us;
   parts = is_given (codes "only-matching") us;
-  format = format_of (options_in us);
+  format = format_of_options (options_in us);
   coloring = coloring_in us;
   names = naming_of (options_in us);
   label = last_value (codes "label") us;
@@ -203,5 +203,5 @@ asks_of (Some us) =
     else (if is_given (codes "version") us then AsksVersion else search_or us (fault_in us))
 
 -- what words ask for
-abbrev pub asks : List Text → Asks
+abbrev pub asks : List Word → Asks
 asks words = asks_of (uses_in words)

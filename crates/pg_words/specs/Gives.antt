@@ -3,7 +3,7 @@ use Rattle.std.specs.Prelude.{◌≡◌, ℕ, ◌≤◌, Some, Result, Ok, Err}
 use Rattle.pg_words.specs.Asked.{asked_of, pace_of}
 use Rattle.pg_words.specs.Asks.{Asks, AsksHelp, AsksSearch, AsksVersion, HasFault, IsRefused}
 use Rattle.pg_words.specs.Found.{value_behind}
-use Rattle.pg_words.specs.Line.{Text, Number}
+use Rattle.pg_words.specs.Line.{Word, Number}
 use Rattle.pg_words.specs.declared.words.Task.{Task}
 use Rattle.pg_words.specs.declared.words.Task.TheVariants as task
 use Rattle.pg_words.specs.declared.words.WordsFault.{WordsFault}
@@ -15,15 +15,15 @@ IsTask asks task.Help = asks ≡ AsksHelp
 IsTask asks task.Version = asks ≡ AsksVersion
 
 -- a refused text is told in `clap`'s words, and memory may always be lacking
-abbrev pub IsFault : Asks → WordsFault → Type 0
-IsFault asks (fault.Refused text) = asks ≡ IsRefused
-IsFault asks (fault.Usage usage) = asks ≡ HasFault usage
-IsFault asks fault.OutOfMemory = Unit {0}
+abbrev pub IsWordsFault : Asks → WordsFault → Type 0
+IsWordsFault asks (fault.Refused text) = asks ≡ IsRefused
+IsWordsFault asks (fault.Usage usage) = asks ≡ HasFault usage
+IsWordsFault asks fault.OutOfMemory = Unit {0}
 
 -- just what is asked for, or why it isn't had
 abbrev pub Gives : Asks → Result Task WordsFault → Type 0
 Gives asks (Ok task) = IsTask asks task
-Gives asks (Err fault) = IsFault asks fault
+Gives asks (Err fault) = IsWordsFault asks fault
 
 -- no usage fault
 abbrev pub IsRefusal : WordsFault → Type 0
@@ -32,5 +32,5 @@ IsRefusal (fault.Usage usage) = ⊥
 IsRefusal fault.OutOfMemory = Unit {0}
 
 -- a number of at most this stands behind the option of this name
-abbrev pub IsNumberUpTo : ℕ → Text → Type 0
+abbrev pub IsNumberUpTo : ℕ → Word → Type 0
 IsNumberUpTo most name = (low high : ℕ) × (value_behind name ≡ Some (Number low high)) × (high ≤ most)

@@ -8,7 +8,7 @@ use Rattle.pg_grammar.specs.declared.pattern_list.Kind.TheVariants.{Basic, Exten
 use Rattle.pg_rows.specs.declared.format.Format.{Format}
 use Rattle.pg_rows.specs.declared.format.Mode.{Mode}
 use Rattle.pg_rows.specs.declared.format.Mode.TheVariants.{Rows, Count, List as Names, ListOthers as Others, Quiet}
-use Rattle.pg_words.specs.Line.{Text, own, table}
+use Rattle.pg_words.specs.Line.{Word, own, table}
 use Rattle.pg_words.specs.Spelled.{is_flag}
 use Rattle.pg_words.specs.declared.options.GivenModes.{GivenModes}
 use Rattle.pg_words.specs.declared.options.GivenModes.TheVariants.{Unset, One, Several}
@@ -18,11 +18,11 @@ use Rattle.pg_words.specs.declared.options.Naming.{Naming}
 use Rattle.pg_words.specs.declared.options.Naming.TheVariants.{Always, Never, BySeveral}
 
 -- the syntax of the patterns
-abbrev pub kind_of : Options → Kind
-kind_of options = if options.extended then Extended else (if options.fixed then Fixed else Basic)
+abbrev pub kind_of_options : Options → Kind
+kind_of_options options = if options.extended then Extended else (if options.fixed then Fixed else Basic)
 
 -- the options that say what is written of each file, by their long names (XCU grep, -c, -l and -q; GNU grep, -L)
-abbrev pub modes : List (Text × Mode)
+abbrev pub modes : List (Word × Mode)
 modes = (codes "count", Count)
     ∷ (codes "files-with-matches", Names)
     ∷ (codes "files-without-match", Others)
@@ -54,7 +54,7 @@ are_several (One mode) = false
 are_several Several = true
 
 -- the options of the code's table
-abbrev pub mode_table : List ModeOption → List (Text × Mode)
+abbrev pub mode_table : List ModeOption → List (Word × Mode)
 mode_table rows = map (λ row. (row.0.now, row.1)) rows
 
 -- the options of these modes have no value
@@ -66,8 +66,8 @@ abbrev pub naming_of : Options → Naming
 naming_of options = if options.no_names then Never else (if options.names then Always else BySeveral)
 
 -- How rows look: -h takes the names away, a limit is at least 1, and -C gives what -B or -A doesn't.
-abbrev pub format_of : Options → Format
-format_of options = record {
+abbrev pub format_of_options : Options → Format
+format_of_options options = record {
   names = options.names && not options.no_names;
   null = options.null;
   tabs = options.tabs;

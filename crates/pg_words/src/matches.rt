@@ -8,7 +8,7 @@ ghost use Rattle.pg_words.specs.Asks.{coloring_by, coloring_in, device_action, d
 ghost use Rattle.pg_words.specs.Asks.{has_long_separator, has_other_action, has_other_coloring};
 ghost use Rattle.pg_words.specs.Asks.{has_other_directory_action};
 ghost use Rattle.pg_words.specs.Asks.{has_other_type, is_word_of, modes_given, modes_in, number_in, options_in};
-ghost use Rattle.pg_words.specs.Found.{found_values, value_behind, IsFound};
+ghost use Rattle.pg_words.specs.Found.{found_values, value_behind, IsOfUses};
 ghost use Rattle.pg_words.specs.Gives.{IsNumberUpTo};
 ghost use Rattle.pg_words.specs.Options.{are_flags, given_modes, mode_table};
 ghost use Rattle.pg_words.specs.Line.{ignores_case, is_given, last_of, last_value, separator_in, AnyText, Nothing};
@@ -27,7 +27,7 @@ pub(crate) fn options_of(
     fold: bool,
     separator: Option<Separator>,
 ) -> Options
-    ensures { (us : List Use) → IsFound us (found_of found.now) → fold ≡ ignores_case us
+    ensures { (us : List Use) → IsOfUses us (found_of found.now) → fold ≡ ignores_case us
         → separator ≡ option_and_then separator_for (separator_in us) → result ≡ options_in us }
 {
     Options {
@@ -60,14 +60,14 @@ pub(crate) fn options_of(
 
 /// What is given of the options that say what is written of each file.
 fn modes_of(found: &ArgMatches<'_>) -> GivenModes
-    ensures { (us : List Use) → IsFound us (found_of found.now) → result ≡ modes_in us }
+    ensures { (us : List Use) → IsOfUses us (found_of found.now) → result ≡ modes_in us }
 {
     modes_among(found, &MODES)
 }
 
 /// What is given of these options.
 fn modes_among(found: &ArgMatches<'_>, options: &[ModeOption]) -> GivenModes
-    ensures { (us : List Use) → IsFound us (found_of found.now) → are_flags options.now ≡ true
+    ensures { (us : List Use) → IsOfUses us (found_of found.now) → are_flags options.now ≡ true
         → result ≡ given_modes (modes_given (mode_table options.now) us) }
 {
     let mut only = None;
@@ -116,7 +116,7 @@ fn has_other_directory_action(values: &[&str]) -> bool
 
 /// What the last of -d, -r and -R asks for, if one is given.
 pub(crate) fn directories_of(found: &ArgMatches<'_>) -> Option<DirectoryAction>
-    ensures { (us : List Use) → IsFound us (found_of found.now) → result ≡ directories_in us }
+    ensures { (us : List Use) → IsOfUses us (found_of found.now) → result ≡ directories_in us }
 {
     match last_value(found, "directories") {
         Some(text) => directory_action(text),
@@ -146,7 +146,7 @@ fn has_other_action(values: &[&str]) -> bool
 
 /// What -D asks for, if it is given.
 pub(crate) fn devices_of(found: &ArgMatches<'_>) -> Option<DeviceAction>
-    ensures { (us : List Use) → IsFound us (found_of found.now)
+    ensures { (us : List Use) → IsOfUses us (found_of found.now)
         → result ≡ option_and_then device_action (last_value (codes "devices") us) }
 {
     match last_value(found, "devices") {
@@ -202,7 +202,7 @@ fn has_long_separator(texts: &[&str]) -> bool
 
 /// What the last --color asks for.
 pub(crate) fn coloring_of(found: &ArgMatches<'_>) -> Coloring
-    ensures { (us : List Use) → IsFound us (found_of found.now) → result ≡ coloring_in us }
+    ensures { (us : List Use) → IsOfUses us (found_of found.now) → result ≡ coloring_in us }
 {
     match last_value(found, "color") {
         Some(text) => coloring_by(text).unwrap_or(Coloring::Never),
@@ -219,7 +219,7 @@ pub(crate) fn values_of<'w, 'a: 'w>(found: &'w ArgMatches<'a>, name: &str) -> &'
 
 /// The last value of an option, if it is given.
 pub(crate) fn last_value<'a>(found: &ArgMatches<'a>, name: &str) -> Option<&'a str>
-    ensures { (us : List Use) → IsFound us (found_of found.now) → value_behind name.now ≡ Some AnyText
+    ensures { (us : List Use) → IsOfUses us (found_of found.now) → value_behind name.now ≡ Some AnyText
         → option_map (λ value. value.now) result ≡ last_value name.now us }
 {
     last_of(values_of(found, name))
@@ -238,7 +238,7 @@ fn last_of<'a>(texts: &[&'a str]) -> Option<&'a str>
 
 /// Whether an option is given that has no value.
 pub(crate) fn flag(found: &ArgMatches<'_>, name: &str) -> bool
-    ensures { (us : List Use) → IsFound us (found_of found.now) → value_behind name.now ≡ Some Nothing
+    ensures { (us : List Use) → IsOfUses us (found_of found.now) → value_behind name.now ≡ Some Nothing
         → result ≡ is_given name.now us }
 {
     found.get_flag(name)
@@ -246,7 +246,7 @@ pub(crate) fn flag(found: &ArgMatches<'_>, name: &str) -> bool
 
 /// The number that an option gives.
 fn number(found: &ArgMatches<'_>, name: &str) -> Option<u32>
-    ensures { (us : List Use) → IsFound us (found_of found.now) → IsNumberUpTo u32.MAX name.now
+    ensures { (us : List Use) → IsOfUses us (found_of found.now) → IsNumberUpTo u32.MAX name.now
         → result ≡ number_in name.now us }
 {
     found.get_one(name)
@@ -254,7 +254,7 @@ fn number(found: &ArgMatches<'_>, name: &str) -> Option<u32>
 
 /// The number that an option gives whose numbers fit a `u16`.
 fn small_number(found: &ArgMatches<'_>, name: &str) -> Option<u16>
-    ensures { (us : List Use) → IsFound us (found_of found.now) → IsNumberUpTo u16.MAX name.now
+    ensures { (us : List Use) → IsOfUses us (found_of found.now) → IsNumberUpTo u16.MAX name.now
         → result ≡ number_in name.now us }
 {
     found.get_one(name)
@@ -263,7 +263,7 @@ fn small_number(found: &ArgMatches<'_>, name: &str) -> Option<u16>
 /// The number from 1 to `most` that an option gives, and this one where it isn't given.
 pub(crate) fn number_within(found: &ArgMatches<'_>, name: &str, default: u32, most: u32) -> u32
     requires { (1 ≤ default) × (default ≤ most) }
-    ensures exact { (us : List Use) → IsFound us (found_of found.now) → value_behind name.now ≡ Some (Number 1 most)
+    ensures exact { (us : List Use) → IsOfUses us (found_of found.now) → value_behind name.now ≡ Some (Number 1 most)
         → result ≡ unwrap_or (number_in name.now us) default }
     ensures within { (1 ≤ result) × (result ≤ most) }
 {

@@ -188,11 +188,12 @@ pub struct Options {
 }
 
 impl Options {
-    ghost use Rattle.pg_words.specs.Options.{format_of, has_context, has_excluded_by_parts, kind_of, naming_of};
+    ghost use Rattle.pg_words.specs.Options.{format_of_options, has_context, has_excluded_by_parts, kind_of_options};
+    ghost use Rattle.pg_words.specs.Options.{naming_of};
 
     /// The syntax of the patterns, where not both -E and -F are given.
     pub(crate) fn kind(&self) -> Kind
-        ensures { result ≡ kind_of self.now }
+        ensures { result ≡ kind_of_options self.now }
     {
         if self.extended {
             Kind::Extended
@@ -205,7 +206,7 @@ impl Options {
 
     /// How rows look, where none of the options excludes another. They have names with -H alone, and no colors.
     pub(crate) fn format(&self) -> Format
-        ensures exact { result ≡ format_of self.now }
+        ensures exact { result ≡ format_of_options self.now }
         ensures some_limit { HasRoom result }
     {
         Format {

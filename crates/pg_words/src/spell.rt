@@ -7,7 +7,7 @@ ghost use Rattle.std.specs.String.{string_bytes};
 ghost use Rattle.clap.specs.Lexer.{short_of};
 ghost use Rattle.pg_words.specs.Joined.{Free};
 ghost use Rattle.pg_words.specs.Line.{by_letter, table};
-ghost use Rattle.pg_words.specs.Places.{place_of};
+ghost use Rattle.pg_words.specs.Places.{next_word_of};
 ghost use Rattle.pg_words.specs.Spelled.{flag_words, full_word, is_flag, letter_words, newer_letter, number_words};
 ghost use Rattle.pg_words.specs.Spelled.{place_behind};
 ghost use Rattle.pg_words.specs.Spelled.{rest_word, spelled_from, spelled_word};
@@ -38,8 +38,8 @@ fn add_spelled<'a>(
     word: &'a str,
 ) -> Result<Place<'a>, AllocError>
     ensures { IfOk result (λ next. (rest : List (List ℕ))
-        → map string_bytes parts.new.items ++ spelled_from table (place_of next) rest
-        ≡ map string_bytes parts.old.items ++ spelled_from table (place_of place.entry) (word.entry.now ∷ rest)) }
+        → map string_bytes parts.new.items ++ spelled_from table (next_word_of next) rest
+        ≡ map string_bytes parts.old.items ++ spelled_from table (next_word_of place.entry) (word.entry.now ∷ rest)) }
 {
     match place {
         Place::Value(_) => {
@@ -65,7 +65,7 @@ fn add_free<'a>(
     parts: &mut Vec<String>,
     word: &'a str,
 ) -> Result<Place<'a>, AllocError>
-    ensures { IfOk result (λ next. (place_of next ≡ place_behind table word.entry.now)
+    ensures { IfOk result (λ next. (next_word_of next ≡ place_behind table word.entry.now)
         × (map string_bytes parts.new.items
         ≡ map string_bytes parts.old.items ++ spelled_word table (full_word table word.entry.now))) }
 {

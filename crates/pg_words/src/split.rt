@@ -7,7 +7,7 @@ ghost use Rattle.clap.specs.Lexer.{has_byte};
 ghost use Rattle.pg_words.specs.Joined.{asked, behind_text, complete, joined_from, joined_word};
 ghost use Rattle.pg_words.specs.Joined.{letter_takes_value, value_cut};
 ghost use Rattle.pg_words.specs.Joined.{waits, Free};
-ghost use Rattle.pg_words.specs.Places.{place_of};
+ghost use Rattle.pg_words.specs.Places.{next_word_of};
 ghost use Rattle.pg_words.specs.Line.{is_mark, table};
 ghost use Rattle.pg_words.specs.Spelled.{uses_in};
 
@@ -77,7 +77,7 @@ fn join(alloc: Global, words: &[String]) -> Result<Vec<String>, AllocError>
 /// Adds the word whose option waits in vain for its value, if there is one.
 fn add_last(alloc: Global, parts: &mut Vec<String>, place: Place<'_>) -> Result<(), AllocError>
     ensures { OnOk result (map string_bytes parts.new.items
-        ≡ map string_bytes parts.old.items ++ joined_from table (place_of place.entry) []) }
+        ≡ map string_bytes parts.old.items ++ joined_from table (next_word_of place.entry) []) }
 {
     match place {
         Place::Value(option) => add_copy(alloc, parts, option),
@@ -93,8 +93,8 @@ fn add_word<'a>(
     word: &'a str,
 ) -> Result<Place<'a>, AllocError>
     ensures { IfOk result (λ next. (rest : List (List ℕ))
-        → map string_bytes parts.new.items ++ joined_from table (place_of next) rest
-        ≡ map string_bytes parts.old.items ++ joined_from table (place_of place.entry) (word.entry.now ∷ rest)) }
+        → map string_bytes parts.new.items ++ joined_from table (next_word_of next) rest
+        ≡ map string_bytes parts.old.items ++ joined_from table (next_word_of place.entry) (word.entry.now ∷ rest)) }
 {
     match place {
         Place::Value(option) => {

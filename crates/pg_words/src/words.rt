@@ -7,7 +7,7 @@ ghost use Rattle.pg_grammar.specs.Slices.{bytes_of};
 ghost use Rattle.pg_words.specs.Asked.{asked_of, pace_of};
 ghost use Rattle.pg_words.specs.Asks.{asked_in, asks_of, fault_in, files_in, options_in, pace_in, search_or, texts_in};
 ghost use Rattle.pg_words.specs.Filters.{filters_of};
-ghost use Rattle.pg_words.specs.Found.{AreSources, IsFound};
+ghost use Rattle.pg_words.specs.Found.{AreSources, IsOfUses};
 ghost use Rattle.pg_words.specs.Gives.{Gives, IsRefusal};
 ghost use Rattle.pg_words.specs.Joined.{asked};
 ghost use Rattle.pg_words.specs.Line.{filters_in, ignores_case, separator_in, table, values_of, Use};
@@ -146,7 +146,7 @@ fn task_of<'a>(
     separator: Option<Separator>,
     filters: Vec<FileFilter<'a>>,
 ) -> Result<Task<'a>, WordsFault>
-    ensures { (us : List Use) → IsFound us (found_of found.now) → fold ≡ ignores_case us
+    ensures { (us : List Use) → IsOfUses us (found_of found.now) → fold ≡ ignores_case us
         → separator ≡ option_and_then separator_for (separator_in us)
         → filters_of filters.entry.items ≡ filters_in us → Gives (asks_of (Some us)) result }
 {
@@ -167,7 +167,7 @@ fn task_of<'a>(
 
 /// What the words name.
 fn sources_of<'w, 'a: 'w>(found: &'w ArgMatches<'a>) -> Sources<'w, 'a>
-    ensures { (us : List Use) → IsFound us (found_of found.now) → AreSources us result }
+    ensures { (us : List Use) → IsOfUses us (found_of found.now) → AreSources us result }
 {
     place_operands(
         values_of(found, "regexp"),
@@ -184,7 +184,7 @@ fn search_of<'a>(
     sources: Sources<'_, 'a>,
     filters: Vec<FileFilter<'a>>,
 ) -> Result<Task<'a>, WordsFault>
-    ensures { (us : List Use) → IsFound us (found_of found.now) → options.now ≡ options_in us
+    ensures { (us : List Use) → IsOfUses us (found_of found.now) → options.now ≡ options_in us
         → AreSources us sources.entry → filters_of filters.entry.items ≡ filters_in us
         → Gives (search_or us (fault_in us)) result }
 {
@@ -218,7 +218,7 @@ fn build_request<'a>(
 ) -> Request<'a>
     requires some_pattern { 0 < vec_len texts + vec_len pattern_files }
     requires some_file { 0 < vec_len files }
-    ensures { (us : List Use) → IsFound us (found_of found.now) → options.now ≡ options_in us
+    ensures { (us : List Use) → IsOfUses us (found_of found.now) → options.now ≡ options_in us
         → bytes_of texts.entry.items ≡ texts_in us → bytes_of pattern_files.entry.items ≡ values_of (codes "file") us
         → bytes_of files.entry.items ≡ searched (files_in us) → filters_of filters.entry.items ≡ filters_in us
         → bytes_of excluded.entry.items ≡ values_of (codes "exclude-dir") us

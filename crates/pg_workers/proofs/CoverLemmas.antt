@@ -10,7 +10,7 @@ use Rattle.pg_board.specs.Board.{SeatView}
 use Rattle.pg_board.specs.Tray.{PutView}
 use Rattle.pg_board.proofs.CountLemmas.{total-append}
 use Rattle.pg_selection.specs.Searched.{SearchedBlock}
-use Rattle.pg_workers.specs.Results.{IsResultOf, AreResultsOf, HasResult}
+use Rattle.pg_workers.specs.Results.{IsBlockResult, AreResultsOf, HasResultOf}
 use Rattle.pg_workers.specs.Workers.{Task, AreWorks}
 
 not_same : (m n : ℕ) → ¬ (m ≡ n) → ◌≡◌ {A = ℕ} (if m == n then 1 else 0) 0
@@ -18,29 +18,29 @@ not_same m n ne = grind (arith, nat_tests)
 
 module _ {B F : Type 0} (finds : B → F → Type 0) (blocks : List B) (n : ℕ) where
   in_results : (ns : List ℕ) (rs : List F) → AreResultsOf finds blocks ns rs → 1 ≤ times n ns
-      → HasResult finds blocks n rs
+      → HasResultOf finds blocks n rs
   in_results [] [] h k = absurd (omega arith)
   in_results [] (r ∷ rs) h k = absurd h
   in_results (m ∷ ms) [] h k = absurd h
   in_results (m ∷ ms) (r ∷ rs) h k = dite (ℕ_discrete m n)
-      (λ is. inl (subst (λ (j : ℕ). IsResultOf finds blocks j r) is h.0))
+      (λ is. inl (subst (λ (j : ℕ). IsBlockResult finds blocks j r) is h.0))
       (λ ne. let z = not_same m n ne in inr (in_results ms rs h.1 (omega arith)))
 
-  in_either : (b : Bool) (x : F) (l m : List F) → (HasResult finds blocks n l → HasResult finds blocks n m)
-      → HasResult finds blocks n (if b then x ∷ l else l) → HasResult finds blocks n (x ∷ m)
+  in_either : (b : Bool) (x : F) (l m : List F) → (HasResultOf finds blocks n l → HasResultOf finds blocks n m)
+      → HasResultOf finds blocks n (if b then x ∷ l else l) → HasResultOf finds blocks n (x ∷ m)
   in_either true x l m f (inl a) = inl a
   in_either true x l m f (inr a) = inr (f a)
   in_either false x l m f a = inr (f a)
 
-  in_given : (i : ℕ) (given : List (ℕ × F)) → HasResult finds blocks n (given_to i given)
-      → HasResult finds blocks n (map (λ (g : ℕ × F). g.1) given)
+  in_given : (i : ℕ) (given : List (ℕ × F)) → HasResultOf finds blocks n (given_to i given)
+      → HasResultOf finds blocks n (map (λ (g : ℕ × F). g.1) given)
   in_given i [] h = h
   in_given i (g ∷ given) h = in_either (g.0 == i) g.1 (given_to i given) (map (λ (g : ℕ × F). g.1) given)
       (in_given i given) h
 
 module _ {A C : Type 0} (t : Task A C) where
   abbrev Has : ℕ → List SearchedBlock → Type 0
-  Has n rs = HasResult t.search.finds t.blocks n rs
+  Has n rs = HasResultOf t.search.finds t.blocks n rs
 
   in_works : (n : ℕ) (ss : List SeatView) (ps : List (PutView SearchedBlock A)) → AreWorks t ss ps
       → 1 ≤ times n (flat_map (λ s. s.drawn) ss)

@@ -5,7 +5,7 @@ use Rattle.std.specs.Prelude.{option_to_list}
 use Rattle.pg_selection.specs.Searched.{SearchedBlock}
 use Rattle.pg_board.specs.Board.{SeatView, seat_view}
 use Rattle.pg_board.specs.Tray.{PutView, put_view}
-use Rattle.pg_workers.specs.Results.{IsResultOf, AreResultsOf}
+use Rattle.pg_workers.specs.Results.{IsBlockResult, AreResultsOf}
 use Rattle.pg_workers.specs.declared.worker.Worker.{Worker}
 use Rattle.pg_workers.specs.Workers.{Task, GrowAlike, GrowBut, HasPut, IsWork, HasWorked, HasFinished, AreWorks}
 
@@ -23,7 +23,7 @@ module _ {A C : Type 0} (t : Task A C) where
 
   pub grow_more : (d d' d'' : List ℕ) (p p' p'' : List SearchedBlock) (n : ℕ) (r : SearchedBlock)
       → GrowAlike t d d' p p'
-      → d'' ≡ d' ++ n ∷ [] → p'' ≡ p' ++ r ∷ [] → IsResultOf t.search.finds t.blocks n r → GrowAlike t d d'' p p''
+      → d'' ≡ d' ++ n ∷ [] → p'' ≡ p' ++ r ∷ [] → IsBlockResult t.search.finds t.blocks n r → GrowAlike t d d'' p p''
   grow_more d d' d'' p p' p'' n r h e f k = (
     h.0 ++ n ∷ [],
     h.1 ++ r ∷ [],

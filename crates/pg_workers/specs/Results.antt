@@ -4,20 +4,20 @@ use Rattle.std.specs.Prelude.{◌≡◌, ◌⊎◌, ℕ, ◌<◌, List, [], ◌�
 -- of blocks of any type, by what is the result of one
 module _ {B F : Type 0} (finds : B → F → Type 0) where
   -- the result of the block of this number
-  abbrev pub IsResultOf : List B → ℕ → F → Type 0
-  IsResultOf blocks n r = (block : B) × (slice_get blocks n ≡ Some block) × finds block r
+  abbrev pub IsBlockResult : List B → ℕ → F → Type 0
+  IsBlockResult blocks n r = (block : B) × (slice_get blocks n ≡ Some block) × finds block r
 
   -- the results of the blocks of these numbers, in their order
   abbrev pub AreResultsOf : List B → List ℕ → List F → Type 0
   AreResultsOf blocks [] [] = Unit {0}
-  AreResultsOf blocks (n ∷ ns) (r ∷ rs) = IsResultOf blocks n r × AreResultsOf blocks ns rs
+  AreResultsOf blocks (n ∷ ns) (r ∷ rs) = IsBlockResult blocks n r × AreResultsOf blocks ns rs
   AreResultsOf blocks _ _ = ⊥
 
   -- some of these is the result of the block of this number
-  abbrev pub HasResult : List B → ℕ → List F → Type 0
-  HasResult blocks n [] = ⊥
-  HasResult blocks n (r ∷ rs) = IsResultOf blocks n r ⊎ HasResult blocks n rs
+  abbrev pub HasResultOf : List B → ℕ → List F → Type 0
+  HasResultOf blocks n [] = ⊥
+  HasResultOf blocks n (r ∷ rs) = IsBlockResult blocks n r ⊎ HasResultOf blocks n rs
 
   -- the result of each block is among these
   abbrev pub HasAll : List B → List F → Type 0
-  HasAll blocks rs = (n : ℕ) → n < length blocks → HasResult blocks n rs
+  HasAll blocks rs = (n : ℕ) → n < length blocks → HasResultOf blocks n rs

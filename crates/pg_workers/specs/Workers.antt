@@ -6,7 +6,7 @@ use Rattle.pg_board.specs.Board.{BoardView, SeatView}
 use Rattle.pg_board.specs.Tray.{PutView}
 use Rattle.pg_blocks.specs.Blocks.{BlockData}
 use Rattle.pg_selection.specs.Searched.{SearchedBlock}
-use Rattle.pg_workers.specs.Results.{IsResultOf, AreResultsOf}
+use Rattle.pg_workers.specs.Results.{IsBlockResult, AreResultsOf}
 use Rattle.pg_workers.specs.Searches.{SearchView}
 use Rattle.pg_workers.specs.declared.round.Round.{Round}
 use Rattle.pg_workers.specs.declared.worker.Worker.{Worker}
@@ -46,7 +46,7 @@ module _ {A C : Type 0} where
 
   -- what was put grew by the result of this number
   abbrev pub HasPut : Task A C → ℕ → List SearchedBlock → List SearchedBlock → Type 0
-  HasPut t n put put' = (r : SearchedBlock) × (put' ≡ put ++ r ∷ []) × IsResultOf t.search.finds t.blocks n r
+  HasPut t n put put' = (r : SearchedBlock) × (put' ≡ put ++ r ∷ []) × IsBlockResult t.search.finds t.blocks n r
 
   -- a seat and a pass of the round: the pass put one result for each number of the seat, in order
   abbrev pub IsWork : Task A C → SeatView → PutView SearchedBlock A → Type 0

@@ -1,6 +1,6 @@
 //! What each one who searches does.
 ghost use Rattle.std.specs.Prelude.{◌≡◌, ◌<◌, true, None, IfOk, IfErr, IfNone, OnOk, OnErr};
-ghost use Rattle.pg_workers.specs.Results.{IsResultOf};
+ghost use Rattle.pg_workers.specs.Results.{IsBlockResult};
 ghost use Rattle.pg_workers.specs.Workers.{task_of, IsReady, HasPut, GrowAlike, GrowBut, HasWorked, HasFinished};
 
 use crate::block_search::BlockSearch;
@@ -66,7 +66,7 @@ fn search_number<A: Allocator, C, Q: BlockSearch<Alloc = A, Scratch = C>>(
     requires fits { (Q.seen round.query.now).fits scratch.old }
     ensures fits { (Q.seen round.entry.query.now).fits scratch.new }
     ensures found { IfOk result
-        (IsResultOf (Q.seen round.entry.query.now).finds round.entry.blocks.now number) }
+        (IsBlockResult (Q.seen round.entry.query.now).finds round.entry.blocks.now number) }
 {
     let block = &round.blocks[number as usize];
     round.query.search(scratch, number, block)

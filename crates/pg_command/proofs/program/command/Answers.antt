@@ -2,7 +2,7 @@ use Rattle.std.proofs.Common.{rules, ◌≡◌, ◌∙◌, ap, inl, map, sym, su
 use Rattle.std.specs.String.{string_bytes}
 use Rattle.pg_words.specs.Asked.{Asked, asked_of, pace_of}
 use Rattle.pg_words.specs.Asks.{Asks, AsksSearch, asks, asks_of}
-use Rattle.pg_words.specs.Gives.{Gives, IsFault, IsTask}
+use Rattle.pg_words.specs.Gives.{Gives, IsWordsFault, IsTask}
 use Rattle.pg_words.specs.Joined.{asked}
 use Rattle.pg_words.specs.Line.{table}
 use Rattle.pg_words.specs.declared.words.Task.{Task}
@@ -48,11 +48,11 @@ pub returns-clause-commands : goal.returns-clause-commands
 returns-clause-commands g c =
     let fault = c.in-Err.fault in
     let joined = asks_of (asked table (map string_bytes c.in-Ok.joined.parts.items)) in
-    let given : IsFault joined fault =
+    let given : IsWordsFault joined fault =
     subst (λ (r : Result Task WordsFault). Gives joined r) c.in-Err.is c.read_words.ensures in
     let words = map string_bytes c.args.call.now.words.items in
-    let asked_for : IsFault (asks words) fault =
-    subst (λ (a : Asks). IsFault a fault)
+    let asked_for : IsWordsFault (asks words) fault =
+    subst (λ (a : Asks). IsWordsFault a fault)
     (ap asks_of c.in-Ok.ensures
     ∙ ap (λ (texts : List (String Global)). asks (map string_bytes texts)) c.as_slice.ensures.value) given in
     refusal_told (g.T.FileTree.tells c.args.tree.now) (g.T.FileTree.answers c.args.tree.now) c.args.call.now.terminal

@@ -1,6 +1,6 @@
 use Rattle.std.proofs.Common.{◌≡◌, ◌≤◌, ℕ, List, length, take, subst, true, false, map, ap, sym, ◌∙◌, inl, inr}
 use Rattle.pg_selection.specs.Search.{SearchText, search_of}
-use Rattle.pg_selection.specs.Selection.{parts}
+use Rattle.pg_selection.specs.Selection.{parts_of_line}
 use Rattle.pg_selection.specs.BlockParts.{part_at}
 use Rattle.pg_prefilter.proofs.JudgeLemmas.{judges_front}
 use Rattle.pg_lines.proofs.PartLemmas.{kept_none, no_parts}
@@ -18,11 +18,12 @@ returns-else-options-clause-parts g c = λ trees spelled text one chosen.
     elim c.else-options.branch [
       | else-options-via-then-options+else-not-options w ↦
           let inverted : c.options.inside.invert ≡ true = w.if-not-options.false in
-          kept_none c.args.found.now.items (map put (parts q text)) q.text.with_parts
+          kept_none c.args.found.now.items (map put (parts_of_line q text)) q.text.with_parts
           (inr (ap (map put) (no_parts q text (sym invert ∙ inverted) chosen)))
       | else-options-via-else-options w ↦
           let unasked : c.options.inside.with_parts ≡ false = w.if-options.false in
-          kept_none c.args.found.now.items (map put (parts q text)) q.text.with_parts (inl (sym pieces ∙ unasked))
+          kept_none c.args.found.now.items (map put (parts_of_line q text)) q.text.with_parts
+          (inl (sym pieces ∙ unasked))
     ]
 
 pub push_parts-requires-clause-line : goal.push_parts-requires-clause-line

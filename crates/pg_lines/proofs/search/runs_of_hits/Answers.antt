@@ -4,7 +4,7 @@ use Rattle.std.proofs.Common.{refl}
 use Rattle.std.proofs.lemmas.List.{take_rest}
 use Rattle.pg_blocks.specs.Lines.{lines, AreShort}
 use Rattle.pg_selection.specs.Search.{SearchText, Pattern, AreTreesOf, search_of, uninverted, terminator_of}
-use Rattle.pg_selection.specs.Selection.{parts}
+use Rattle.pg_selection.specs.Selection.{parts_of_line}
 use Rattle.pg_selection.specs.Runs.{AllLines, AreRuns}
 use Rattle.pg_selection.specs.BlockParts.{part_at}
 use Rattle.pg_prefilter.specs.NextHits.{IsNextLine}
@@ -111,7 +111,7 @@ loop-line-preserved g c =
           (c.in-Some.ensures.found.first trees spelled) in
           let gathered' = longer.gathered q c.terminator-end.ensures gathered found in
           let one = line_one q bytes runs run gathered line found in
-          let put : List Part = cond text.with_parts (map (part_at line.start number) (parts q one.0)) [] in
+          let put : List Part = cond text.with_parts (map (part_at line.start number) (parts_of_line q one.0)) [] in
           c.in_ok-push_line_parts.ensures.parts trees spelled one.0 one.2 one.1
           ∙ (ap (λ ps. ps ++ put) (i.parts trees spelled)
           ∙ sym (parts_with_line q bytes runs run gathered line found c.with_line.new.runs.items new gathered'

@@ -3,7 +3,7 @@ use Rattle.std.specs.Prelude.{IfSome}
 use Rattle.std.proofs.lemmas.Option.{IfSome_then}
 use Rattle.pg_prefilter.specs.Literals.{AreLiterals, TellHeads, data_of}
 use Rattle.pg_literal.specs.Literals.{as_searched}
-use Rattle.pg_prefilter.specs.Strings.{IsJudgeOf, IsNear, IsReachOf, IsSetOf, ReadsSearched}
+use Rattle.pg_prefilter.specs.Strings.{IsJudgeOf, IsNear, IsTextReach, IsSetOf, ReadsSearched}
 use Rattle.pg_prefilter.proofs.JudgeLemmas.{judge_known, judge_reads, sought_known}
 use Rattle.pg_lines.proofs.search.search_by.Goals as goal
 
@@ -18,7 +18,7 @@ near_text-requires-clause-literals g c =
 
 pub near_text-requires-clause-reach : goal.near_text-requires-clause-reach
 near_text-requires-clause-reach g c =
-    subst (λ text. IfSome c.reach.result (IsReachOf text)) (sym c.text-options.ensures.text)
+    subst (λ text. IfSome c.reach.result (IsTextReach text)) (sym c.text-options.ensures.text)
     (c.reach.ensures c.args.query.now.text c.prefilter-found.ensures)
 
 pub selected_runs-requires-clause-ready : goal.selected_runs-requires-clause-ready

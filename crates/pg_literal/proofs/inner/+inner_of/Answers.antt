@@ -1,7 +1,7 @@
 use Rattle.std.proofs.Common.{inl, inr, arith, rules, sym, subst, ◌<◌, length}
 use Rattle.pg_pattern.specs.declared.tree.Tree.{the_lemmas}
 use Rattle.pg_pattern.proofs.PatternLemmas.{pattern-cat, pattern-alt, pattern-rep}
-use Rattle.pg_literal.specs.Inner.{AreWithin}
+use Rattle.pg_literal.specs.Inner.{AreInnerTexts}
 use Rattle.pg_literal.proofs.InnerLemmas.{part_first, part_second, part_round, within_alt}
 use Rattle.pg_literal.proofs.inner.+inner_of.Goals as goal
 
@@ -25,7 +25,7 @@ returns-in-Alt g t c = λ outer part begun some.
     let known = c.loop-tree.invariant in
     elim c.in_ok-found-in-Alt.ensures [
       | inl same ↦
-          subst (λ ls. AreWithin c.args.fold outer ls.items) (sym same)
+          subst (λ ls. AreInnerTexts c.args.fold outer ls.items) (sym same)
           (known.best outer part begun (subst (λ ls. 0 < length ls.items) same some))
       | inr is ↦
           let whole = rw (pattern-alt _ _ _ c.in-Alt.is) at (known.part outer part) in

@@ -2,7 +2,7 @@ use Rattle.std.proofs.Common.{◌≤◌, ◌<◌, length}
 use Rattle.pg_pattern.specs.Patterns.{Pattern}
 use Rattle.pg_pattern.specs.Trees.{pattern}
 use Rattle.pg_pattern.specs.declared.tree.Tree.{size-Tree}
-use Rattle.pg_literal.specs.Inner.{AreWithin, IsPart}
+use Rattle.pg_literal.specs.Inner.{AreInnerTexts, IsPart}
 use Rattle.pg_literal.proofs.inner.+inner_of.Given as goal
 
 abbrev pub decreases-inner_of : goal.decreases-inner_of
@@ -14,6 +14,6 @@ invariant-loop-tree g l = record {
   below : size-Tree _ l.tree ≤ size-Tree _ l.fn.tree;
   part : (outer : Pattern) → IsPart l.fold (pattern l.fn.tree) outer → IsPart l.fold (pattern l.tree) outer;
   best : (outer : Pattern) → IsPart l.fold (pattern l.fn.tree) outer
-      → (0 < length l.fn.best.items → AreWithin l.fold outer l.fn.best.items) → 0 < length l.best.items
-      → AreWithin l.fold outer l.best.items;
+      → (0 < length l.fn.best.items → AreInnerTexts l.fold outer l.fn.best.items) → 0 < length l.best.items
+      → AreInnerTexts l.fold outer l.best.items;
 }

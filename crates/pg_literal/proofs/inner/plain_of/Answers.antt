@@ -1,6 +1,6 @@
 use Rattle.std.proofs.Common.{◌<◌, length, ◌∙◌, arith, ap}
 use Rattle.std.proofs.lemmas.List.Elements.{AllWithin-more_set}
-use Rattle.pg_literal.specs.Inner.{IsPlain}
+use Rattle.pg_literal.specs.Inner.{IsNeededOnly}
 use Rattle.pg_literal.proofs.InnerLemmas.{texts_set}
 use Rattle.pg_literal.proofs.inner.plain_of.Goals as goal
 
@@ -16,5 +16,5 @@ loop-literal-preserved g c =
     record {
       texts = texts_set literals i new old below (ap (λ text. text.items) says.text)
           ∙ c.loop-literal.invariant.texts;
-      plain = AllWithin-more_set literals i new below IsPlain c.loop-literal.invariant.plain says.plain;
+      plain = AllWithin-more_set literals i new below IsNeededOnly c.loop-literal.invariant.plain says.plain;
     }

@@ -1,5 +1,6 @@
 use Rattle.std.proofs.Common.{List, ℕ, Vec, map, reverse, sym, ap, ◌∙◌, subst, refl, ◌≡◌, rules, arith}
-use Rattle.pg_literal.specs.Rows.{items_of, row_of, AreProduct}
+use Rattle.pg_literal.specs.Rows.{row_of, AreProduct}
+use Rattle.pg_pattern.specs.Strings.{items_of}
 use Rattle.pg_literal.proofs.LiteralLemmas.{pushed_none, pushed_more, pushed_all}
 use Rattle.pg_literal.proofs.literal.push_row.Goals as goal
 

@@ -1,5 +1,5 @@
 use Rattle.std.proofs.Common.{map, take, reverse}
-use Rattle.pg_literal.specs.Rows.{items_of}
+use Rattle.pg_pattern.specs.Strings.{items_of}
 use Rattle.pg_literal.proofs.LiteralLemmas.{ArePushed}
 use Rattle.pg_literal.proofs.literal.push_row.Given as goal
 

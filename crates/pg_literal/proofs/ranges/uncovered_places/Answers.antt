@@ -2,7 +2,7 @@ use Rattle.std.proofs.Common.{◌≡◌, ◌+◌, ◌||◌, ℕ, Bool, List, tru
 use Rattle.std.specs.Prelude.{slice_index}
 use lib.Lanes.{chunk}
 use Rattle.std.proofs.lemmas.Simd.{zip2_of_maps}
-use Rattle.pg_literal.specs.Ranges.{covered, in_pair, mark}
+use Rattle.pg_literal.specs.Ranges.{covered, in_pair, bit_of}
 use Rattle.pg_literal.proofs.RangeLemmas.{mark_either, marked_at}
 use Rattle.pg_literal.proofs.ranges.uncovered_places.Goals as goal
 
@@ -27,10 +27,10 @@ returns-in_default-clause-none c = λ k less one other.
     let near = c.as_pairs.result in
     let far = c.as_pairs-in_default.result in
     let few = c.lanes_before_both-in_default.ensures.few in
-    let near_are = zip2_of_maps _ (λ b. mark (in_pair near.0 b)) (λ b. mark (in_pair near.1 b)) (chunk at 32 bytes)
+    let near_are = zip2_of_maps _ (λ b. bit_of (in_pair near.0 b)) (λ b. bit_of (in_pair near.1 b)) (chunk at 32 bytes)
     c.marks-in_default.ensures c.marks-in_default-2.ensures
     ∙ mark_either (in_pair near.0) (in_pair near.1) (chunk at 32 bytes) in
-    let far_are = zip2_of_maps _ (λ b. mark (in_pair far.0 b)) (λ b. mark (in_pair far.1 b)) (chunk behind 32 bytes)
+    let far_are = zip2_of_maps _ (λ b. bit_of (in_pair far.0 b)) (λ b. bit_of (in_pair far.1 b)) (chunk behind 32 bytes)
     c.marks-in_default-3.ensures c.marks-in_default-4.ensures
     ∙ mark_either (in_pair far.0) (in_pair far.1) (chunk behind 32 bytes) in
     let in_near : ℕ → Bool = λ b. in_pair near.0 b || in_pair near.1 b in

@@ -1,5 +1,6 @@
 use Rattle.std.proofs.Common.{List, ℕ, [], ◌∷◌, ◌++◌, map, reverse, sym, ap, ◌∙◌, subst, arith}
-use Rattle.pg_literal.specs.Rows.{items_of, AreProduct}
+use Rattle.pg_literal.specs.Rows.{AreProduct}
+use Rattle.pg_pattern.specs.Strings.{items_of}
 use Rattle.pg_literal.proofs.RowLemmas.{longer_texts, product_none, product_grows, product_all}
 use Rattle.pg_literal.proofs.row.texts_of.Goals as goal
 

@@ -1,5 +1,6 @@
 use Rattle.std.proofs.Common.{map, take, reverse}
-use Rattle.pg_literal.specs.Rows.{items_of, row_of, AreProduct}
+use Rattle.pg_literal.specs.Rows.{row_of, AreProduct}
+use Rattle.pg_pattern.specs.Strings.{items_of}
 use Rattle.pg_literal.proofs.row.texts_of.Given as goal
 
 abbrev pub invariant-loop-set : goal.invariant-loop-set

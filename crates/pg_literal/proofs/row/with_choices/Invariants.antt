@@ -1,5 +1,5 @@
 use Rattle.std.proofs.Common.{◌≡◌, map, take}
-use Rattle.pg_literal.specs.Rows.{items_of}
+use Rattle.pg_pattern.specs.Strings.{items_of}
 use Rattle.pg_literal.proofs.RowLemmas.{longer_texts}
 use Rattle.pg_literal.proofs.row.with_choices.Given as goal
 

@@ -1,6 +1,6 @@
 use Rattle.std.proofs.Common.{[], ◌∷◌, ◌++◌, ap, sym, ◌∙◌, map}
 use Rattle.std.proofs.lemmas.List.{map-append}
-use Rattle.pg_strings.specs.Keys.{items_of}
+use Rattle.pg_pattern.specs.Strings.{items_of}
 use Rattle.pg_prefilter.proofs.NonEmptyLemmas.{none_copied, some_copied}
 use Rattle.pg_prefilter.proofs.fixed.with_bytes.Goals as goal
 use Rattle.pg_prefilter.proofs.fixed.with_bytes.Goals.{then-not-is_empty+in_ok-copy_as_searched+in_ok-push}

@@ -1,6 +1,6 @@
 use Rattle.std.proofs.Common.{◌≡◌, map, take}
 use Rattle.pg_grammar.specs.Slices.{bytes_of}
-use Rattle.pg_strings.specs.Keys.{items_of}
+use Rattle.pg_pattern.specs.Strings.{items_of}
 use Rattle.pg_prefilter.specs.Strings.{without_empty}
 use Rattle.pg_prefilter.proofs.fixed.with_bytes.Given as goal
 

@@ -1,5 +1,5 @@
 use Rattle.std.proofs.Common.{◌≡◌, map, take}
-use Rattle.pg_strings.specs.Keys.{items_of}
+use Rattle.pg_pattern.specs.Strings.{items_of}
 use Rattle.pg_prefilter.proofs.literal_set.copies_of.Given as goal
 
 abbrev pub invariant-loop-literal : goal.invariant-loop-literal

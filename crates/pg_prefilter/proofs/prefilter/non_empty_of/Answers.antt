@@ -1,7 +1,7 @@
 use Rattle.std.proofs.Common.{◌≡◌, ◌≤◌, ◌∙◌, List, ℕ, length, map, ap, sym, subst}
 use Rattle.std.specs.List.{All}
 use Rattle.pg_grammar.specs.Slices.{bytes_of}
-use Rattle.pg_strings.specs.Keys.{items_of}
+use Rattle.pg_pattern.specs.Strings.{items_of}
 use Rattle.pg_selection.specs.Search.{SearchText, patterns}
 use Rattle.pg_literal.specs.Literals.{as_searched}
 use Rattle.pg_prefilter.specs.Strings.{without_empty}

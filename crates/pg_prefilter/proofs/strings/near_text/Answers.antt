@@ -2,7 +2,7 @@ use Rattle.std.proofs.Common.{◌∙◌, List, arith, ap, get_or, length, subst,
 use Rattle.std.specs.Prelude.{IfSome}
 use Rattle.std.specs.Vec.{vec_len}
 use Rattle.std.proofs.lemmas.Bool.{eqb-false}
-use Rattle.pg_prefilter.specs.Strings.{IsNear, IsReachOf}
+use Rattle.pg_prefilter.specs.Strings.{IsNear, IsTextReach}
 use Rattle.pg_prefilter.proofs.NearLemmas.{reach_is_near}
 use Rattle.pg_prefilter.proofs.strings.near_text.Goals as goal
 
@@ -12,7 +12,7 @@ returns-clause-near g c =
     let literals = c.args.literals.now in
     let literal = c.index-literals-0.result in
     let before = c.in_ok-before.before in
-    let known = subst (λ o. IfSome o (IsReachOf text)) c.in_ok-reach.was c.requires.reach in
+    let known = subst (λ o. IfSome o (IsTextReach text)) c.in_ok-reach.was c.requires.reach in
     let items = c.deref-2.ensures.value in
     let size = ap length items in
     let len = c.deref-2.ensures.len in

@@ -1,7 +1,7 @@
 use Rattle.std.proofs.Common.{Ok, List, [], ◌∷◌, refl, sym, ◌∙◌, subst}
 use Rattle.std.proofs.lemmas.Result.{err_from_is_err_and}
 use Rattle.pg_selection.specs.Searched.{SearchedBlock}
-use Rattle.pg_round.specs.Receipts.{HasReceived, Takes}
+use Rattle.pg_round.specs.Receipts.{HasReceived, TakesResults}
 use Rattle.pg_round.proofs.ReceiptLemmas.{takes_none, takes_more}
 use Rattle.pg_reader.proofs.GoingLemmas.{gone_on_none, gone_on_more}
 use Rattle.pg_round.proofs.receiving.take_all.Goals as goal
@@ -14,7 +14,7 @@ loop-init g c =
       tray = c.requires.take.0;
       workers = refl;
       took = subst
-          (λ (l : List SearchedBlock). Takes {T = Unit {0}} (Ok tt) stands (HasReceived stands l) before before)
+          (λ (l : List SearchedBlock). TakesResults {T = Unit {0}} (Ok tt) stands (HasReceived stands l) before before)
           (sym c.requires.take.1) (takes_none stands tt before);
       read = gone_on_none c.requires.reader;
     }
@@ -43,7 +43,8 @@ loop-preserved g c =
       more = (tt, tt);
       tray = took.tray.0;
       workers = took.tray.1 ∙ i.workers;
-      took = subst (λ (l : List SearchedBlock). Takes {T = Unit {0}} (Ok tt) stands (HasReceived last l) before after)
+      took = subst (λ (l : List SearchedBlock). TakesResults {T = Unit {0}} (Ok tt) stands (HasReceived last l) before
+          after)
           (sym took.none) i.took;
       read = gone_on_more i.read c.read_on-looks.ensures;
     }
@@ -56,7 +57,8 @@ returns-then-is_over g c =
     let before = g.W.Sink.stream c.args.out.now in let after = g.W.Sink.stream c.loop.out in
     record {
       same = (took.tray.0, took.tray.1 ∙ i.workers);
-      took = subst (λ (l : List SearchedBlock). Takes {T = Unit {0}} (Ok tt) stands (HasReceived last l) before after)
+      took = subst (λ (l : List SearchedBlock). TakesResults {T = Unit {0}} (Ok tt) stands (HasReceived last l) before
+          after)
           (sym took.none) i.took;
       fault = tt;
       read = i.read;

@@ -3,7 +3,7 @@ use Rattle.std.proofs.lemmas.List.Elements.{All-weaker}
 use Rattle.std.proofs.lemmas.Result.{err_from_is_err_and}
 use Rattle.pg_selection.specs.Searched.{SearchedBlock}
 use Rattle.pg_workers.specs.Workers.{task_of, HasWorked, HasFinished, AreBack}
-use Rattle.pg_round.specs.Receipts.{HasReceived, Takes}
+use Rattle.pg_round.specs.Receipts.{HasReceived, TakesResults}
 use Rattle.pg_round.specs.declared.fault.RoundFault.{RoundFault}
 use Rattle.pg_reader.proofs.GoingLemmas.{gone_on_none}
 use Rattle.pg_round.proofs.ReceiptLemmas.{takes_none, takes_fault, takes_value}
@@ -17,7 +17,8 @@ returns-then-len-lt2 g c =
     record {
       back = (refl, All-weaker (HasFinished t) (HasWorked t) (λ w h. h.0) c.args.workers.items c.requires.finished);
       same = (c.requires.take.0, refl);
-      took = subst (λ (l : List SearchedBlock). Takes (Ok c.args.workers) stands (HasReceived stands l) before before)
+      took = subst (λ (l : List SearchedBlock). TakesResults (Ok c.args.workers) stands (HasReceived stands l) before
+          before)
           (sym c.requires.take.1) (takes_none stands c.args.workers before);
       read = gone_on_none c.requires.reader;
     }
@@ -33,7 +34,8 @@ returns-in_err-taken g c =
       back = tt;
       same = e.same;
       took = takes_fault stands _ took took before after
-          (subst (λ (r : Result (Unit {0}) RoundFault). Takes r stands took before after) c.in_err-taken.was e.took);
+          (subst (λ (r : Result (Unit {0}) RoundFault). TakesResults r stands took before after) c.in_err-taken.was
+          e.took);
       read = e.read;
     })
 
@@ -43,7 +45,7 @@ returns-clause-took g c =
     let took = HasReceived (g.S.Collector.stands c.stream-back.new.collector) c.stream-back.new.take.taken in
     let before = g.W.Sink.stream c.args.out.now in let after = g.W.Sink.stream c.stream-back.new.out in
     takes_value stands _ _ took before after
-    (subst (λ (r : Result (Unit {0}) RoundFault). Takes r stands took before after) c.in_ok-taken.was
+    (subst (λ (r : Result (Unit {0}) RoundFault). TakesResults r stands took before after) c.in_ok-taken.was
     c.stream-back.ensures.took)
 
 pub stream-back-requires-clause-ready : goal.stream-back-requires-clause-ready

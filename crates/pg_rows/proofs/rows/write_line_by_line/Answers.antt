@@ -4,7 +4,7 @@ use Rattle.std.proofs.Common.{arith, length-append, length-drop, refl}
 use Rattle.std.proofs.lemmas.Bool.{cases_lt}
 use Rattle.std.proofs.lemmas.List.{drop_all, length-take-le}
 use Rattle.pg_blocks.specs.Lines.{lines, AreWhole}
-use Rattle.pg_rows.specs.Output.{size_of}
+use Rattle.pg_rows.specs.Output.{bytes_in}
 use Rattle.pg_base.specs.Sink.{WritesAll, WritesPart}
 use Rattle.pg_rows.specs.Stretch.{marked_rows, plain}
 use Rattle.pg_rows.proofs.RowLemmas.{marked_line}
@@ -15,7 +15,7 @@ use Rattle.pg_rows.proofs.rows.write_line_by_line.Goals as goal
 -- how many bytes the line has that stands between two places, or none follows it
 line_size : (end : ℕ) (text : List ℕ) (from next : ℕ) → from < next → next ≤ length text
     → (next < length text → AreWhole end (slice_range text from next))
-    → (size_of (lines end (slice_range text from next)) ≡ next - from) ⊎ (lines end (drop next text) ≡ [])
+    → (bytes_in (lines end (slice_range text from next)) ≡ next - from) ⊎ (lines end (drop next text) ≡ [])
 line_size end text from next less within whole = elim (cases_lt next (length text)) [
   | inl more ↦
       let left = length-drop from text in

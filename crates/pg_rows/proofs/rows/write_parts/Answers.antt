@@ -2,7 +2,7 @@ use Rattle.std.proofs.Common.{ℕ, ◌+◌, ◌∙◌, List, drop, get_or, nat_l
 use Rattle.std.proofs.lemmas.List.{drop_all}
 use Rattle.pg_rows.specs.Output.{when}
 use Rattle.pg_base.specs.Sink.{WritesAll, WritesPart}
-use Rattle.pg_rows.specs.Stretch.{part_row, part_rows, no_part}
+use Rattle.pg_rows.specs.Stretch.{part_row, rows_of_parts, no_part}
 use Rattle.pg_rows.proofs.RowLemmas.{parts_more}
 use Rattle.pg_base.proofs.WriteLemmas.{writes_part, left_less, left_none, left_part, left_whole}
 use Rattle.pg_rows.proofs.rows.write_parts.Goals as goal
@@ -16,7 +16,7 @@ returns-in_err-write_part-clause-writes g c =
     let at = a.lines in
     let k = c.loop-part.part-index in
     let parts = a.parts.now in
-    let rows = part_rows a.format.now a.end a.prefix.now at.first.number at.first.offset at.count a.bytes.now in
+    let rows = rows_of_parts a.format.now a.end a.prefix.now at.first.number at.first.offset at.count a.bytes.now in
     let p = get_or parts k no_part in
     let text = λ (name : List ℕ). when (nat_lt p.line at.count)
     (part_row a.format.now a.end name at.first.number at.first.offset a.bytes.now p) in
@@ -36,7 +36,7 @@ loop-part-preserved g c =
     let at = a.lines in
     let k = c.loop-part.part-index in
     let parts = a.parts.now in
-    let rows = part_rows a.format.now a.end a.prefix.now at.first.number at.first.offset at.count a.bytes.now in
+    let rows = rows_of_parts a.format.now a.end a.prefix.now at.first.number at.first.offset at.count a.bytes.now in
     let p = get_or parts k no_part in
     let text = λ (name : List ℕ). when (nat_lt p.line at.count)
     (part_row a.format.now a.end name at.first.number at.first.offset a.bytes.now p) in
@@ -59,7 +59,8 @@ loop-part-init g c =
     let at = a.lines in
     record {
       prefix = refl;
-      left = left_whole (part_rows a.format.now a.end a.prefix.now at.first.number at.first.offset at.count a.bytes.now
+      left =
+          left_whole (rows_of_parts a.format.now a.end a.prefix.now at.first.number at.first.offset at.count a.bytes.now
           a.parts.now)
           (g.W.Sink.stream a.out.now);
     }
@@ -69,7 +70,7 @@ returns-clause-writes g c =
     let a = c.args in
     let at = a.lines in
     let k = c.loop-part.part-index in
-    let rows = part_rows a.format.now a.end a.prefix.now at.first.number at.first.offset at.count a.bytes.now in
+    let rows = rows_of_parts a.format.now a.end a.prefix.now at.first.number at.first.offset at.count a.bytes.now in
     record {
       ok = left_none (rows a.parts.now) (rows (drop k a.parts.now)) (g.W.Sink.stream a.out.now)
           (g.W.Sink.stream c.loop-part.out) (ap rows (drop_all k a.parts.now c.loop-part-test.false))

@@ -2,7 +2,7 @@ use Rattle.std.proofs.Common.{◌≡◌, ◌<◌, [], length, map, take, arith, 
 use Rattle.std.specs.List.{All}
 use Rattle.std.proofs.lemmas.List.{length-map, take_more}
 use Rattle.std.proofs.lemmas.List.Elements.{All-push, All-weaker}
-use Rattle.pg_strings.specs.Keys.{items_of}
+use Rattle.pg_pattern.specs.Strings.{items_of}
 use Rattle.pg_strings.specs.Whole.{IsFlaggedAt}
 use Rattle.pg_strings.proofs.PlaceLemmas.{string_at, take_whole}
 use Rattle.pg_strings.proofs.WholeLemmas.{flagged_kept}

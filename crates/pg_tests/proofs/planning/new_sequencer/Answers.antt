@@ -1,7 +1,7 @@
 use Rattle.std.proofs.Common.{◌≡◌, cond, refl, ap, sym, subst, ◌∙◌}
 use Rattle.std.specs.Arc.{arc_value}
 use Rattle.pg_selection.specs.Search.{SearchText, AreTreesOf, search_of}
-use Rattle.pg_plan.specs.History.{start}
+use Rattle.pg_plan.specs.History.{past_at_start}
 use Rattle.pg_tests.proofs.planning.new_sequencer.Goals as goal
 
 pub returns : goal.returns
@@ -11,7 +11,7 @@ returns g c =
     let cloned : text ≡ c.args.query.now.text = c.in_ok-try_clone.ensures ∙ c.selector.ensures in
     let P : SearchText → Type 0 = λ t. AreTreesOf t own.0 in
     record {
-      past = start (search_of text own.0) c.args.format;
+      past = past_at_start (search_of text own.0) c.args.format;
       stands = c.in_ok-sequencer.ensures own.0 (subst P (sym cloned) own.1);
       closed = refl;
       number = refl;

@@ -1,7 +1,7 @@
 use Rattle.std.proofs.Common.{◌≡◌, [], map, drop, length, sym, ap, ◌∙◌, arith, append-nil}
 use Rattle.std.proofs.lemmas.List.{at_drop_all}
 use Rattle.std.specs.String.{string_bytes}
-use Rattle.pg_walk.specs.Answers.{Text}
+use Rattle.pg_walk.specs.Answers.{Path}
 use Rattle.pg_walk.specs.Left.{Spot, Operand, spots_in}
 use Rattle.pg_walk.proofs.Lefts.{pushed}
 use Rattle.pg_walk.proofs.walker.operands_waiting.Goals as goal
@@ -22,7 +22,7 @@ bounds-operands-left g c = omega (arith, c.loop-left.invariant.1, c.loop-left-te
 
 pub loop-left-preserved : goal.loop-left-preserved
 loop-left-preserved g c =
-    let at : Text → Spot = λ path. Operand path in (
+    let at : Path → Spot = λ path. Operand path in (
       pushed at string_bytes c.args.operands.now _ _ _ c.index-operands-left.result [] c.loop-left.left
           c.loop-left-test.true c.loop-left.invariant.1 c.in_ok-push.ensures.items
           (ap (λ p. Operand p) (c.in_ok-path.ensures.ok ∙ c.as_str.ensures.value))

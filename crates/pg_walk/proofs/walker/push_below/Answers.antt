@@ -2,7 +2,7 @@ use Rattle.std.proofs.Common.{◌≡◌, ◌+◌, ◌++◌, map, drop, length, s
 use Rattle.std.proofs.lemmas.List.{at_drop_all}
 use Rattle.std.specs.String.{string_bytes}
 use Rattle.pg_walk.specs.Places.{child}
-use Rattle.pg_walk.specs.Answers.{Text}
+use Rattle.pg_walk.specs.Answers.{Path}
 use Rattle.pg_walk.specs.Left.{Spot, Entry, spots_in}
 use Rattle.pg_walk.proofs.Lefts.{pushed}
 use Rattle.pg_walk.proofs.walker.push_below.Goals as goal
@@ -22,7 +22,7 @@ bounds-names-left g c = omega (arith, c.loop-left.invariant.1, c.loop-left-test.
 
 pub loop-left-preserved : goal.loop-left-preserved
 loop-left-preserved g c =
-    let at : Text → Spot = λ n. Entry (child c.args.path.now n) (c.args.depth + 1) in (
+    let at : Path → Spot = λ n. Entry (child c.args.path.now n) (c.args.depth + 1) in (
       pushed at string_bytes c.args.names.now _ _ _ c.index-names-left.result _ c.loop-left.left c.loop-left-test.true
           c.loop-left.invariant.1 c.in_ok-push.ensures.items
           (ap (λ p. Entry p (c.args.depth + 1))

@@ -1,7 +1,7 @@
 use Rattle.std.proofs.Common.{◌∙◌, sym, map}
 use Rattle.std.specs.String.{string_bytes}
 use Rattle.std.proofs.lemmas.Result.{IfOk-weaker}
-use Rattle.pg_words.specs.Places.{place_of}
+use Rattle.pg_words.specs.Places.{next_word_of}
 use Rattle.pg_words.proofs.Spells.{spell_free, spell_mark, spell_rest, spell_value}
 use Rattle.pg_words.proofs.spell.add_spelled.Goals as goal
 
@@ -27,6 +27,6 @@ pub returns-in-Free-2 : goal.returns-in-Free-2
 returns-in-Free-2 c =
     IfOk-weaker c.add_free.result _ _
     (λ next adds rest. rw c.in-Free-2.is (spell_free (map string_bytes c.args.parts.now.items)
-    (map string_bytes c.add_free.new.parts.items) rest c.args.word.now (place_of next)
+    (map string_bytes c.add_free.new.parts.items) rest c.args.word.now (next_word_of next)
     (sym c.is_mark.ensures ∙ c.if-is_mark.false) adds))
     c.add_free.ensures

@@ -3,7 +3,7 @@ use Rattle.std.proofs.lemmas.List.{length-map}
 use Rattle.pg_board.specs.declared.puts.Entry.{Entry}
 use Rattle.pg_board.specs.declared.puts.Puts.{Puts}
 use Rattle.pg_board.specs.Tray.{PutView, TakeView, delivered}
-use Rattle.pg_board.specs.TrayRule.{values_of}
+use Rattle.pg_board.specs.TrayRule.{values_in}
 use Rattle.pg_board.proofs.tray.Tray.close.Goals as goal
 
 pub invariant_of-result : goal.invariant_of-result
@@ -23,7 +23,7 @@ invariant_of-result g c =
 pub returns : goal.returns
 returns g c =
     let T : Type 0 = g.row.T.Denot in let A : Type 0 = g.row.A.Denot in
-    let taken : values_of c.gather.new.ticket.me.view.client.taken ≡ c.args.pass.taken =
-    ap (λ (l : List (Entry T)). values_of l) c.gather.ensures.ticket.3
+    let taken : values_in c.gather.new.ticket.me.view.client.taken ≡ c.args.pass.taken =
+    ap (λ (l : List (Entry T)). values_in l) c.gather.ensures.ticket.3
     ∙ ap (λ (v : TakeView T A). v.taken) c.pass.view_is in
     λ i. delivered (c.gather.ensures.lists i) (taken i)

@@ -3,7 +3,7 @@ use Rattle.std.proofs.Common.{arith, take_all}
 use Rattle.std.specs.Prelude.{option_map, slice_get}
 use Rattle.std.proofs.lemmas.List.{drop_all, length-drop}
 use Rattle.std.proofs.lemmas.Option.{slice_get-map, slice_get-get_or}
-use Rattle.pg_files.specs.MemStore.{stored, behind, left_of}
+use Rattle.pg_files.specs.MemStore.{stored_file, content_behind, left_of}
 use Rattle.pg_files.specs.declared.mem_store.MemFile.{MemFile}
 use Rattle.pg_files.proofs.mem_store.MemStore.left_of.Goals as goal
 
@@ -11,11 +11,12 @@ use Rattle.pg_files.proofs.mem_store.MemStore.left_of.Goals as goal
 left_at : (files : List MemFile) (given : Option ℕ) (place at : ℕ) (file : MemFile) (left : List ℕ) → given ≡ Some place
     → place < length files
     → ((d : MemFile) → file ≡ get_or files place d) → left ≡ drop at file.bytes.items
-    → Some (record { bytes = left; ending = file.ending }) ≡ left_of (map stored files) given at
+    → Some (record { bytes = left; ending = file.ending }) ≡ left_of (map stored_file files) given at
 left_at files given place at file left which within is same =
     let here : slice_get files place ≡ Some file = slice_get-get_or files place file within ∙ ap Some (sym (is file)) in
     rw (which, same) (sym
-    (ap (option_map (λ f. behind at f.1)) (slice_get-map stored files place ∙ ap (option_map stored) here)))
+    (ap (option_map (λ f. content_behind at f.1)) (slice_get-map stored_file files place
+    ∙ ap (option_map stored_file) here)))
 
 pub returns-then-at-bytes-clause-left : goal.returns-then-at-bytes-clause-left
 returns-then-at-bytes-clause-left g c =

@@ -1,5 +1,5 @@
 use Rattle.std.proofs.Common.{ap, map, arith}
-use Rattle.pg_files.specs.MemStore.{stored}
+use Rattle.pg_files.specs.MemStore.{stored_file}
 use Rattle.pg_files.proofs.mem_store.MemStore.new.Goals as goal
 
 pub invariant_of-result : goal.invariant_of-result
@@ -9,4 +9,4 @@ invariant_of-result g c = record {
 }
 
 pub returns-clause-files : goal.returns-clause-files
-returns-clause-files g c = ap (map stored) c.new.ensures.items
+returns-clause-files g c = ap (map stored_file) c.new.ensures.items

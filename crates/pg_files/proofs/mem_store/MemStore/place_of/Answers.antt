@@ -4,7 +4,7 @@ use Rattle.std.specs.String.{string_bytes}
 use Rattle.std.proofs.lemmas.List.{drop_more}
 use Rattle.std.proofs.lemmas.Option.{slice_get-map, slice_get-get_or}
 use lib.Pointwise.{pointwise}
-use Rattle.pg_files.specs.MemStore.{stored, file_at}
+use Rattle.pg_files.specs.MemStore.{stored_file, file_at}
 use Rattle.pg_files.proofs.mem_store.MemStore.place_of.Goals as goal
 
 pub returns-then-eq-clause-place : goal.returns-then-eq-clause-place
@@ -22,6 +22,7 @@ returns-then-eq-clause-place g c =
     ∙ ap (λ x. x ∷ drop (place + 1) items) (sym is) in
     let met : pointwise nat_eq (string_bytes item.path) path ≡ true =
     ap (λ text. pointwise nat_eq text path) (sym c.as_str.ensures.value) ∙ (sym c.eq.ensures ∙ c.if-eq.true) in
-    let first : file_at (map stored (item ∷ drop (place + 1) items)) path ≡ Some (stored item).1 = rw met refl in
-    ap (option_map (λ f. f.1)) (slice_get-map stored items place ∙ ap (option_map stored) here)
-    ∙ (sym first ∙ (ap (λ fs. file_at (map stored fs) path) (sym step) ∙ c.loop-place.invariant))
+    let first : file_at (map stored_file (item ∷ drop (place + 1) items)) path
+    ≡ Some (stored_file item).1 = rw met refl in
+    ap (option_map (λ f. f.1)) (slice_get-map stored_file items place ∙ ap (option_map stored_file) here)
+    ∙ (sym first ∙ (ap (λ fs. file_at (map stored_file fs) path) (sym step) ∙ c.loop-place.invariant))

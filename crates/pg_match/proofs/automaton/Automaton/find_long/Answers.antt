@@ -1,6 +1,6 @@
 use Rattle.std.proofs.Common.{◌-◌, ◌+◌, ◌*◌, ◌<◌, ◌≤◌, Some, arith, length, subst}
 use Rattle.std.specs.Option.{IfSome}
-use Rattle.pg_match.specs.Anchored.{IsAlone}
+use Rattle.pg_match.specs.Anchored.{IsLone}
 use Rattle.pg_match.specs.Steps.{Has}
 use Rattle.pg_match.specs.Views.{nfa, members, Tells}
 use Rattle.pg_match.proofs.AnchoredLemmas.{best_behind}
@@ -26,8 +26,8 @@ returns-clause-best g c =
     let l = c.args.line.now in
     let S = Has (members c.find_until-best.new.sets.current) in
     let left = subst (λ o. IfSome o (λ place. (place < c.saturating_sub-far.result)
-    × IsAlone m l c.args.from place S c.find_until-best.result.0)) c.in-Some-left.is c.find_until-best.ensures.left in
-    let alone = subst (λ b. IsAlone m l c.args.from c.in-Some-left.place S b) c.in_ok-start.was left.1 in
+    × IsLone m l c.args.from place S c.find_until-best.result.0)) c.in-Some-left.is c.find_until-best.ensures.left in
+    let alone = subst (λ b. IsLone m l c.args.from c.in-Some-left.place S b) c.in_ok-start.was left.1 in
     best_behind m l c.args.from c.in_ok-start.start (Some (c.in_ok-start.start, c.finish_anchored.result)) alone.0
     alone.1 c.finish_anchored.ensures.longest
 
@@ -38,7 +38,7 @@ finish_anchored-requires-clause-visits g c =
     let place = c.in-Some-left.place in
     let S = Has (members c.find_until-best.new.sets.current) in
     let left = subst (λ o. IfSome o (λ p. (p < c.saturating_sub-far.result)
-    × IsAlone (nfa c.args.self.now) c.args.line.now c.args.from p S c.find_until-best.result.0)) c.in-Some-left.is
+    × IsLone (nfa c.args.self.now) c.args.line.now c.args.from p S c.find_until-best.result.0)) c.in-Some-left.is
     c.find_until-best.ensures.left in
     let spare = subst (λ o. IfSome o (λ p. c.find_until-best.new.sets.visits + 4 * n ≤ p * n)) c.in-Some-left.is
     c.find_until-best.ensures.spare in
@@ -52,9 +52,9 @@ returns-clause-visits g c =
     let before = c.find_until-best.new.sets.visits in
     let S = Has (members c.find_until-best.new.sets.current) in
     let left = subst (λ o. IfSome o (λ p. (p < c.saturating_sub-far.result)
-    × IsAlone (nfa c.args.self.now) c.args.line.now c.args.from p S c.find_until-best.result.0)) c.in-Some-left.is
+    × IsLone (nfa c.args.self.now) c.args.line.now c.args.from p S c.find_until-best.result.0)) c.in-Some-left.is
     c.find_until-best.ensures.left in
-    let alone = subst (λ b. IsAlone (nfa c.args.self.now) c.args.line.now c.args.from place S b) c.in_ok-start.was
+    let alone = subst (λ b. IsLone (nfa c.args.self.now) c.args.line.now c.args.from place S b) c.in_ok-start.was
     left.1 in
     let spare = subst (λ o. IfSome o (λ p. before + 4 * n ≤ p * n)) c.in-Some-left.is c.find_until-best.ensures.spare in
     visits_spared place (l - place) l n _ _ spare c.finish_anchored.ensures.visits (omega (arith, alone.2.within))

@@ -6,7 +6,7 @@ use Rattle.pg_match.specs.Automata.{Nfa, IsRunnable}
 use Rattle.pg_pattern.specs.Bounds.{MayBegin}
 use Rattle.pg_match.specs.Closures.{AreSeeds}
 use Rattle.pg_match.specs.Stands.{Stands}
-use Rattle.pg_match.specs.Starts.{WithSeeds, GoesOn, StandsUnseeded}
+use Rattle.pg_match.specs.Starts.{WithSeeds, ByteLeads, StandsUnseeded}
 use Rattle.pg_match.specs.Steps.{Has, HitBefore}
 use Rattle.pg_match.specs.Views.{nfa, members}
 use Rattle.pg_match.proofs.StandsLemmas.{stands_next, run_before}
@@ -27,7 +27,7 @@ stands_seeded m l seeds start p begins S may s =
 -- the set behind the byte there, but for starts
 stands_on : (m : Nfa) (l seeds : List ℕ) (start p b : ℕ) (begins : Bool) (S U : ℕ → Type 0)
     → AreSeeds m.states m.start seeds → IsRunnable m → slice_get l p ≡ Some b → p < length l → start ≤ p
-    → IsTrue begins ↔ MayBegin m.bounds l p → GoesOn m.states seeds b (IsTrue begins) S U
+    → IsTrue begins ↔ MayBegin m.bounds l p → ByteLeads m.states seeds b (IsTrue begins) S U
     → (HitBefore m b (WithSeeds seeds (IsTrue begins) S) → ⊥)
     → StandsUnseeded m seeds l start p S → StandsUnseeded m seeds l start (p + 1) U
 stands_on m l seeds start p b begins S U are is byte lt le may goes missed s =

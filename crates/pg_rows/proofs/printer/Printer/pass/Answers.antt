@@ -4,7 +4,7 @@ use Rattle.circular_buffer.specs.Buffer.{keep_last}
 use Rattle.pg_selection.specs.Search.{terminator}
 use Rattle.pg_blocks.specs.Lines.{lines}
 use Rattle.pg_rows.specs.Output.{context}
-use Rattle.pg_rows.specs.Window.{held, lines_from, IsWindow}
+use Rattle.pg_rows.specs.Window.{lines_held, lines_from, IsWindow}
 use Rattle.pg_rows.proofs.SizeLemmas.{run_place}
 use Rattle.pg_rows.proofs.printer.Printer.pass.Goals as goal
 
@@ -19,8 +19,8 @@ returns g c q format cur r f =
     let more : ℕ → _ = λ e. lines_from e block a.printed.start in
     let size = c.clear_unless.ensures.size ∙ r.size in
     let P : ℕ → Type 0 = λ n.
-    keep_last n (held a.self.now.end new) ≡ keep_last n (held a.self.now.end kept ++ more a.self.now.end) in
-    let Q : ℕ → Type 0 = λ e. keep_last most (held e new) ≡ keep_last most (held e kept ++ more e) in
+    keep_last n (lines_held a.self.now.end new) ≡ keep_last n (lines_held a.self.now.end kept ++ more a.self.now.end) in
+    let Q : ℕ → Type 0 = λ e. keep_last most (lines_held e new) ≡ keep_last most (lines_held e kept ++ more e) in
     let last = subst Q r.end_is (subst P size c.push_some.ensures.last) in
     record {
       format_is = r.format_is;

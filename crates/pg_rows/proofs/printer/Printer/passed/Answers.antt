@@ -4,7 +4,7 @@ use Rattle.std.proofs.lemmas.List.{drop_all}
 use Rattle.pg_selection.specs.Search.{terminator}
 use Rattle.pg_blocks.specs.Lines.{lines}
 use Rattle.pg_rows.specs.declared.format.Format.{Format}
-use Rattle.pg_rows.specs.Output.{size_of}
+use Rattle.pg_rows.specs.Output.{bytes_in}
 use Rattle.pg_rows.specs.Progress.{TellsBlock}
 use Rattle.pg_rows.specs.Remembered.{shows_lines}
 use Rattle.pg_rows.proofs.PrinterSteps.{offset_follows, has_lines, bytes_small}
@@ -33,7 +33,7 @@ returns g c q format cur r trees query =
     record {
       told = subst P r.format_is c.after.ensures.tells q cur.trail bytes has.each (c.lines-total.ensures ∙ has.total)
           r.told;
-      offset = c.behind.ensures ∙ (ap (λ bs. s.offset + size_of (lines s.end bs)) same
+      offset = c.behind.ensures ∙ (ap (λ bs. s.offset + bytes_in (lines s.end bs)) same
           ∙ offset_follows s q format cur bytes r);
       within = omega (arith, long);
       count = sym (ap (λ xs. length (lines (terminator q) xs)) (drop_all _ bytes (omega (arith, long))));

@@ -9,13 +9,13 @@ use Rattle.pg_rows.specs.declared.format.Format.{Format}
 use Rattle.pg_rows.specs.declared.printer.Printer.{Printer}
 use Rattle.pg_rows.specs.declared.printer.Place.{Place}
 use Rattle.pg_rows.specs.Cursor.{Cursor}
-use Rattle.pg_rows.specs.Output.{size_of}
+use Rattle.pg_rows.specs.Output.{bytes_in}
 use Rattle.pg_base.specs.Sink.{Stream, TakesPart}
 use Rattle.pg_rows.specs.Trail.{run_rows}
 use Rattle.pg_rows.specs.Places.{FirstLines}
 use Rattle.pg_rows.specs.Remembered.{shown_rows, shows_lines, IsAtCursor, ComesLast}
 use Rattle.pg_rows.specs.Steps.{shown_passed, ComesBehind}
-use Rattle.pg_rows.specs.Window.{held}
+use Rattle.pg_rows.specs.Window.{lines_held}
 use Rattle.pg_rows.proofs.PrintLemmas.{at_last}
 use Rattle.pg_rows.proofs.RunSteps.{failed_before}
 use Rattle.pg_rows.proofs.PrinterSteps.{behind_last, bytes_small, follows, lines_small, shown_lines}
@@ -32,7 +32,7 @@ is_left : {A : Type 0} {s : Printer A} {q : Search} {format : Format} {c : Curso
     {place : Place} (found : SearchedBlock) (bytes : List ℕ) (total : ℕ) → IsAtCursor s q format c
     → found.query ≡ q.text
     → bytes ≡ found.block.bytes → total ≡ length (lines_of found)
-    → ComesLast q format c (held (terminator q) s.window) found.block.bytes before after s.progress place
+    → ComesLast q format c (lines_held (terminator q) s.window) found.block.bytes before after s.progress place
     → IsLeft s.end found.block.bytes (take (length bytes - place.at) (drop place.at bytes)) place total
 is_left {place = place} found bytes total r query same counted h =
     let all = h.here.count in
@@ -48,7 +48,7 @@ is_left {place = place} found bytes total r query same counted h =
 left_small : {A : Type 0} {s : Printer A} {q : Search} {format : Format} {c : Cursor} {bytes : List ℕ}
     {before after : Stream} {place : Place} (lines_all total : ℕ) → IsAtCursor s q format c
     → c.trail.number + lines_all < 2 ^ 63 → total ≡ lines_all → place.seen ≤ total
-    → ComesLast q format c (held (terminator q) s.window) bytes before after s.progress place
+    → ComesLast q format c (lines_held (terminator q) s.window) bytes before after s.progress place
     → place.progress.number + (total - place.seen) < 2 ^ 63
 left_small lines_all total r small counted within h =
     omega (arith, lines_small lines_all r small, counted, within, h.number)
@@ -133,7 +133,7 @@ returns-in_err-stop-clause-writes g c q format cur r trees query =
     let start = g.W.Sink.stream a.out.now in
     let middle = g.W.Sink.stream c.print_runs.new.out in
     let ls = lines (terminator q) (drop place.at bytes) in
-    let hidden = held (terminator q) s.window in
+    let hidden = lines_held (terminator q) s.window in
     let rows = λ (p : Printer g.row.A.Denot) (t : List ℕ).
     shown_passed p place.progress (p.offset + place.at) (lines p.end t) in
     let cut = take (length c.bytes_of-bytes.result.now - place.at) (drop place.at c.bytes_of-bytes.result.now) in
@@ -166,7 +166,7 @@ returns-clause-writes g c q format cur r trees query =
     let start = g.W.Sink.stream a.out.now in
     let middle = g.W.Sink.stream c.print_runs.new.out in
     let ls = lines (terminator q) (drop place.at bytes) in
-    let hidden = held (terminator q) s.window in
+    let hidden = lines_held (terminator q) s.window in
     let rows = λ (p : Printer g.row.A.Denot) (t : List ℕ).
     shown_passed p place.progress (p.offset + place.at) (lines p.end t) in
     let cut = take (length c.bytes_of-bytes.result.now - place.at) (drop place.at c.bytes_of-bytes.result.now) in
@@ -211,8 +211,8 @@ returns-clause-follows g c q format cur r trees query =
     let Q : List ℕ → Type 0 = λ t. FirstLines s.end t stop place.progress.countdown in
     let stops = subst Q left.cut_is (subst P c.in_ok-place.ensures.same c.in_ok-stop.ensures.stops) in
     let behind = c.behind-next.ensures
-    ∙ (ap (λ p. p.offset + size_of (lines p.end c.bytes_of-bytes.result.now)) c.in_ok-place.ensures.same
-    ∙ ap (λ bs. s.offset + size_of (lines s.end bs)) c.bytes_of-bytes.ensures) in
+    ∙ (ap (λ p. p.offset + bytes_in (lines p.end c.bytes_of-bytes.result.now)) c.in_ok-place.ensures.same
+    ∙ ap (λ bs. s.offset + bytes_in (lines s.end bs)) c.bytes_of-bytes.ensures) in
     follows s q format cur bytes start middle place c.pass-last.result (c.lines.result - place.seen) stop
     c.saturating_sub.result c.behind-next.result r (ap shows_lines (sym r.format_is) ∙ c.requires.shows) h
     c.pass-last.ensures.fields left.count stops.rest stops.within c.saturating_sub.ensures behind

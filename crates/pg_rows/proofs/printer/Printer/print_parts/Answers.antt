@@ -13,7 +13,7 @@ use Rattle.pg_rows.specs.Cursor.{Cursor}
 use Rattle.pg_rows.specs.Modes.{shows_rows}
 use Rattle.pg_rows.specs.Pieces.{cut_at}
 use Rattle.pg_rows.specs.Remembered.{IsAtCursor, HasLines, shown_rows, shows_parts}
-use Rattle.pg_rows.specs.Stretch.{part_rows}
+use Rattle.pg_rows.specs.Stretch.{rows_of_parts}
 use Rattle.pg_rows.proofs.PieceLemmas.{found_lines_told, parts_fit}
 use Rattle.pg_rows.proofs.PrinterSteps.{bytes_small, has_found, has_lines, pieces_same, shown_pieces}
 use Rattle.pg_base.proofs.WriteLemmas.{writes_part, writes_as}
@@ -56,7 +56,7 @@ rows_same : {A : Type 0} (s : Printer A) (q : Search) (format : Format) (c : Cur
     → HasRuns found.query found.block.bytes runs → HasParts found.query found.block.bytes parts
     → total ≡ length (lines_of found)
     → (HasLines q bytes runs total → cut ≡ cut_at q s.format.limit s.progress.kept (lines (terminator q) bytes))
-    → part_rows s.format s.end s.prefix (s.progress.number + 1) s.offset cut bytes parts
+    → rows_of_parts s.format s.end s.prefix (s.progress.number + 1) s.offset cut bytes parts
     ≡ shown_rows q format c found.block.bytes
 rows_same s q format c found bytes runs parts total cut r trees query shows same has_runs has_parts counted is =
     let has = has_found q found bytes runs parts trees query same has_runs has_parts in

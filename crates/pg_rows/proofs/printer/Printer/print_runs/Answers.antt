@@ -5,7 +5,7 @@ use Rattle.pg_selection.specs.Search.{terminator}
 use Rattle.pg_selection.specs.Searched.{lines_of}
 use Rattle.pg_rows.specs.declared.printer.Printer.{Printer}
 use Rattle.pg_base.specs.Sink.{WritesPart}
-use Rattle.pg_rows.specs.Window.{held}
+use Rattle.pg_rows.specs.Window.{lines_held}
 use Rattle.pg_rows.specs.Remembered.{shown_rows, shows_lines}
 use Rattle.pg_rows.specs.Steps.{shown_step}
 use Rattle.pg_base.proofs.SinkLemmas.{on_err}
@@ -126,7 +126,7 @@ returns-in_err-print_step-clause-stops g c q format cur r trees query =
     let next = c.step-next.result in
     let on = leads_on next n c.step-next.ensures l.invariant.used in
     let failed = (c.in_err-print_step.ensures.writes q on.takes).err in
-    let hidden = held (terminator q) l.self.window in
+    let hidden = lines_held (terminator q) l.self.window in
     let rows = sym (shown_lines q format cur bytes (ap shows_lines (sym r.format_is) ∙ c.requires.shows))
     ∙ ap (shown_rows q format cur) c.bytes_of-bytes.ensures in
     let before = g.W.Sink.stream a.out.now in

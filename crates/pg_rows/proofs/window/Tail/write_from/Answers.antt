@@ -1,5 +1,5 @@
 use Rattle.std.proofs.Common.{List, ℕ, drop, length, ap, arith}
-use Rattle.pg_rows.specs.Output.{size_of}
+use Rattle.pg_rows.specs.Output.{bytes_in}
 use Rattle.pg_rows.specs.Stretch.{marked_rows, plain}
 use Rattle.pg_rows.specs.Window.{tail_lines}
 use Rattle.pg_rows.proofs.SizeLemmas.{size_enough}
@@ -19,7 +19,7 @@ write_lines-requires g c =
     let text = c.text_from-text in
     let count = ap (λ ls. length ls) text.ensures in
     let enough = size_enough c.args.end text.result.now in
-    let same = ap size_of text.ensures in
+    let same = ap bytes_in text.ensures in
     record {
       small = omega (arith, count, c.requires.fits.small);
       placed = omega (arith, enough, same, c.requires.fits.placed);

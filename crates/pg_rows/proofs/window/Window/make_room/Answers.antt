@@ -1,7 +1,7 @@
 use Rattle.std.proofs.Common.{◌+◌, ◌-◌, ◌≤◌, length, drop, subst, sym, ap, ◌∙◌, arith}
 use Rattle.circular_buffer.specs.Buffer.{Buffer}
 use Rattle.pg_rows.specs.declared.window.Tail.{Tail}
-use Rattle.pg_rows.specs.Window.{tail_lines, lines_in, held, AreHeld, GivesUp}
+use Rattle.pg_rows.specs.Window.{tail_lines, lines_in, lines_held, AreHeld, GivesUp}
 use Rattle.pg_rows.proofs.WindowLemmas.{first_tail, held_pop, gives_first}
 use Rattle.pg_rows.proofs.window.Window.make_room.Goals as goal
 
@@ -32,12 +32,12 @@ loop-first-preserved-else-others-lines g c =
     let others = lines_in c.args.end (drop 1 tails) in
     let enough : size ≤ length others + c.args.lines =
     omega (arith, first.counted, c.capacity-size.ensures.capacity, c.if-others-lines.false) in
-    let given = gives_first size c.args.lines (held c.args.end c.args.self.now) (lines_in c.args.end tails)
+    let given = gives_first size c.args.lines (lines_held c.args.end c.args.self.now) (lines_in c.args.end tails)
     (tail_lines c.args.end c.in-Some.first.now) others c.loop-first.invariant.gives_up first.apart enough in
     let count = w.lines - c.in-Some.first.now.lines in
     let P : Buffer (Tail g.row.A.Denot) → Type 0 = λ b. AreHeld c.args.end b.items count b.capacity in
     let Q : Buffer (Tail g.row.A.Denot)
-    → Type 0 = λ b. GivesUp size c.args.lines (held c.args.end c.args.self.now) (lines_in c.args.end b.items) in
+    → Type 0 = λ b. GivesUp size c.args.lines (lines_held c.args.end c.args.self.now) (lines_in c.args.end b.items) in
     record {
       size = ap (λ (b : Buffer (Tail g.row.A.Denot)). b.capacity) c.pop_front.ensures.items
           ∙ c.loop-first.invariant.size;

@@ -4,7 +4,7 @@ use Rattle.std.specs.Arc.{arc_value}
 use Rattle.circular_buffer.specs.Buffer.{keep_last}
 use Rattle.pg_blocks.specs.Blocks.{BlockData}
 use Rattle.pg_rows.specs.declared.window.Tail.{Tail}
-use Rattle.pg_rows.specs.Window.{lines_from, lines_in, held, IsTail}
+use Rattle.pg_rows.specs.Window.{lines_from, lines_in, lines_held, IsTail}
 use Rattle.pg_rows.proofs.WindowLemmas.{room_small, gives_last, gives_enough, tails_pushed, window_pushed}
 use Rattle.pg_rows.proofs.WindowLemmas.{lines_pushed}
 use Rattle.pg_blocks.proofs.CountLemmas.{few_lines}
@@ -51,15 +51,15 @@ returns-clause-takes g c =
     let same = tails_pushed a.end a.lines w.tails.items w.lines w.tails.capacity t c.push_back.new.self
     c.make_room.ensures.window room c.requires.some wide c.push_back.ensures.items in
     let size = a.self.now.tails.capacity in
-    let before = held a.end a.self.now in
+    let before = lines_held a.end a.self.now in
     let more = lines_from a.end (arc_value a.block) a.start in
-    let all : lines_in a.end c.push_back.new.self.items ≡ held a.end w ++ more =
+    let all : lines_in a.end c.push_back.new.self.items ≡ lines_held a.end w ++ more =
     lines_pushed a.end w.tails.items w.tails.capacity t c.push_back.new.self same in
     let P : List (List ℕ) → Type 0 = λ ls. (size ≤ length ls) ⊎ (ls ≡ before ++ more) in
     record {
       size = search rules;
       window = window_pushed a.end a.lines w.tails.items w.lines w.tails.capacity t c.push_back.new.self
           c.make_room.ensures.window room tail refl same;
-      last = ap (keep_last size) all ∙ gives_last size a.lines before (held a.end w) more counted gives_up;
-      enough = subst P (sym all) (gives_enough size a.lines before (held a.end w) more counted gives_up);
+      last = ap (keep_last size) all ∙ gives_last size a.lines before (lines_held a.end w) more counted gives_up;
+      enough = subst P (sym all) (gives_enough size a.lines before (lines_held a.end w) more counted gives_up);
     }

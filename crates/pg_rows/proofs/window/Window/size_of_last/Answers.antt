@@ -2,8 +2,8 @@ use Rattle.std.proofs.Common.{◌-◌, List, ℕ, drop, subst, sym, ap, ◌∙�
 use Rattle.std.specs.List.{AllByRecursion}
 use Rattle.std.proofs.Math.Seq.{drop-nil}
 use Rattle.pg_rows.specs.declared.window.Tail.{Tail}
-use Rattle.pg_rows.specs.Output.{size_of}
-use Rattle.pg_rows.specs.Window.{lines_in, held, IsTail}
+use Rattle.pg_rows.specs.Output.{bytes_in}
+use Rattle.pg_rows.specs.Window.{lines_in, lines_held, IsTail}
 use Rattle.pg_rows.proofs.WindowLemmas.{shown_size}
 use Rattle.pg_rows.proofs.window.Window.size_of_last.Goals as goal
 
@@ -12,10 +12,10 @@ loop-tail-init g c =
     let a = c.args in
     let w = a.self.now in
     let items = c.into_iter-tail-iterator.ensures.into_iter_gives ∙ c.iter-tail-items.ensures.rest in
-    let all = held a.end w in
+    let all = lines_held a.end w in
     let skip = w.lines - a.count in
-    let same = ap (λ n. size_of (drop (n - a.count) all)) c.requires.holds.window.counted in
-    let given = ap (λ ts. size_of (drop skip (lines_in a.end ts))) items in
+    let same = ap (λ n. bytes_in (drop (n - a.count) all)) c.requires.holds.window.counted in
+    let given = ap (λ ts. bytes_in (drop skip (lines_in a.end ts))) items in
     let Q : List (Tail g.row.A.Denot) → Type 0 = λ ts. AllByRecursion (IsTail a.end) ts in
     record {
       can_next = tt;
@@ -32,10 +32,10 @@ loop-tail-preserved g c =
     let ts = c.next.new.self in
     let Q : List (Tail g.row.A.Denot) → Type 0 = λ xs. AllByRecursion (IsTail a.end) xs in
     let each = subst Q c.in-Some.ensures.steps l.invariant.each in
-    let sized = ap (λ xs. size_of (drop l.skip (lines_in a.end xs))) c.in-Some.ensures.steps
+    let sized = ap (λ xs. bytes_in (drop l.skip (lines_in a.end xs))) c.in-Some.ensures.steps
     ∙ shown_size a.end l.skip t ts each.0 in
-    let own = c.size_of_lines-size.ensures ∙ ap size_of c.text_from.ensures in
-    let skipped = ap (λ n. size_of (drop n (lines_in a.end ts))) c.saturating_sub-skip.ensures in
+    let own = c.size_of_lines-size.ensures ∙ ap bytes_in c.text_from.ensures in
+    let skipped = ap (λ n. bytes_in (drop n (lines_in a.end ts))) c.saturating_sub-skip.ensures in
     record {
       can_next = tt;
       is_finite = tt;
@@ -54,9 +54,9 @@ overflow_add-size g c =
     let ts = c.next.new.self in
     let Q : List (Tail g.row.A.Denot) → Type 0 = λ xs. AllByRecursion (IsTail a.end) xs in
     let each = subst Q c.in-Some.ensures.steps l.invariant.each in
-    let sized = ap (λ xs. size_of (drop l.skip (lines_in a.end xs))) c.in-Some.ensures.steps
+    let sized = ap (λ xs. bytes_in (drop l.skip (lines_in a.end xs))) c.in-Some.ensures.steps
     ∙ shown_size a.end l.skip t ts each.0 in
-    let own = c.size_of_lines-size.ensures ∙ ap size_of c.text_from.ensures in
+    let own = c.size_of_lines-size.ensures ∙ ap bytes_in c.text_from.ensures in
     omega (arith, sized, own, l.invariant.left, c.requires.small)
 
 pub text_from-requires : goal.text_from-requires
@@ -67,6 +67,6 @@ text_from-requires g c =
 pub returns : goal.returns
 returns g c =
     let l = c.loop-tail in
-    let none = ap (λ ts. size_of (drop l.skip (lines_in c.args.end ts))) c.in-None.ensures.steps.0
-    ∙ ap size_of (drop-nil {A = List ℕ} l.skip) in
+    let none = ap (λ ts. bytes_in (drop l.skip (lines_in c.args.end ts))) c.in-None.ensures.steps.0
+    ∙ ap bytes_in (drop-nil {A = List ℕ} l.skip) in
     omega (arith, none, l.invariant.left)

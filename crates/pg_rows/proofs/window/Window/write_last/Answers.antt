@@ -5,9 +5,9 @@ use Rattle.std.specs.List.{AllByRecursion}
 use Rattle.circular_buffer.specs.Buffer.{keep_last}
 use Rattle.pg_rows.specs.declared.window.Tail.{Tail}
 use Rattle.pg_base.specs.Sink.{WritesAll, WritesPart}
-use Rattle.pg_rows.specs.Output.{size_of}
+use Rattle.pg_rows.specs.Output.{bytes_in}
 use Rattle.pg_rows.specs.Stretch.{marked_rows, plain}
-use Rattle.pg_rows.specs.Window.{lines_in, tail_lines, held, IsTail}
+use Rattle.pg_rows.specs.Window.{lines_in, tail_lines, lines_held, IsTail}
 use Rattle.pg_rows.proofs.WindowLemmas.{shown_tails, shown_count, shown_size}
 use Rattle.pg_base.proofs.WriteLemmas.{WritesAllBut, writes_part, left_whole, left_less, left_none, left_part}
 use Rattle.pg_rows.proofs.window.Window.write_last.Goals as goal
@@ -17,7 +17,7 @@ loop-tail-init g c =
     let a = c.args in
     let w = a.self.now in
     let items = c.into_iter-tail-iterator.ensures.into_iter_gives ∙ c.iter-tail-items.ensures.rest in
-    let all = held a.end w in
+    let all = lines_held a.end w in
     let skip = w.lines - a.count in
     let same : length all - a.count ≡ skip = ap (λ n. n - a.count) (sym c.requires.holds.window.counted) in
     let left : length (drop skip all) ≡ a.count =
@@ -30,9 +30,10 @@ loop-tail-init g c =
     let Q : List (Tail g.row.A.Denot) → Type 0 = λ ts. AllByRecursion (IsTail a.end) ts in
     let R : List (Tail g.row.A.Denot) → Type 0 = λ ts. a.first.number + length (drop skip (lines_in a.end ts)) < 2 ^ 64
     in
-    let S : List (Tail g.row.A.Denot) → Type 0 = λ ts. a.first.offset + size_of (drop skip (lines_in a.end ts)) < 2 ^ 64
+    let S : List (Tail g.row.A.Denot) → Type 0 =
+    λ ts. a.first.offset + bytes_in (drop skip (lines_in a.end ts)) < 2 ^ 64
     in
-    let T : ℕ → Type 0 = λ n. a.first.offset + size_of (drop n all) < 2 ^ 64 in
+    let T : ℕ → Type 0 = λ n. a.first.offset + bytes_in (drop n all) < 2 ^ 64 in
     record {
       can_next = tt;
       is_finite = tt;
@@ -57,14 +58,14 @@ returns-in_err-size-clause-writes g c =
     let after = g.W.Sink.stream c.write_from.new.out in
     let first = drop l.skip (tail_lines a.end t) in
     let later = drop (l.skip - t.lines) (lines_in a.end ts) in
-    let whole = rows a.prefix.now a.first.number a.first.offset (keep_last a.count (held a.end a.self.now)) in
+    let whole = rows a.prefix.now a.first.number a.first.offset (keep_last a.count (lines_held a.end a.self.now)) in
     let parted = ap (λ xs. rows a.prefix.now l.at.number l.at.offset (drop l.skip (lines_in a.end xs)))
     c.in-Some.ensures.steps
     ∙ shown_tails a.format.now a.end a.prefix.now l.at.number l.at.offset l.skip t ts each.0 in
     let P : List ℕ → Type 0 = λ name. WritesPart (rows name l.at.number l.at.offset first) middle after in
     writes_part whole start after c.from_residual.result c.from_residual.ensures.0
     (left_part whole (rows a.prefix.now l.at.number l.at.offset (drop l.skip (lines_in a.end l.tail-iterator)))
-    (rows a.prefix.now (l.at.number + (t.lines - l.skip)) (l.at.offset + size_of first) later)
+    (rows a.prefix.now (l.at.number + (t.lines - l.skip)) (l.at.offset + bytes_in first) later)
     (rows a.prefix.now l.at.number l.at.offset first) start middle after parted
     (subst P l.invariant.prefix c.in_err-size.ensures.writes.err) l.invariant.left)
 
@@ -82,7 +83,7 @@ loop-tail-preserved g c =
     let after = g.W.Sink.stream c.write_from.new.out in
     let first = drop l.skip (tail_lines a.end t) in
     let later = drop (l.skip - t.lines) (lines_in a.end ts) in
-    let whole = rows a.prefix.now a.first.number a.first.offset (keep_last a.count (held a.end a.self.now)) in
+    let whole = rows a.prefix.now a.first.number a.first.offset (keep_last a.count (lines_held a.end a.self.now)) in
     let parted = ap (λ xs. rows a.prefix.now l.at.number l.at.offset (drop l.skip (lines_in a.end xs)))
     c.in-Some.ensures.steps
     ∙ shown_tails a.format.now a.end a.prefix.now l.at.number l.at.offset l.skip t ts each.0 in
@@ -93,10 +94,10 @@ loop-tail-preserved g c =
     ∙ shown_count a.end l.skip t ts each.0 in
     let size = c.in_ok-size.size in
     let size_is = sym c.in_ok-size.ensures.size in
-    let sized = ap (λ xs. size_of (drop l.skip (lines_in a.end xs))) c.in-Some.ensures.steps
+    let sized = ap (λ xs. bytes_in (drop l.skip (lines_in a.end xs))) c.in-Some.ensures.steps
     ∙ shown_size a.end l.skip t ts each.0 in
     let R : ℕ → Type 0 = λ n. WritesAllBut whole
-    (rows a.prefix.now (l.at.number + n) (l.at.offset + size_of first) later) start after in
+    (rows a.prefix.now (l.at.number + n) (l.at.offset + bytes_in first) later) start after in
     let O : ℕ → Type 0 = λ o. WritesAllBut whole
     (rows a.prefix.now (l.at.number + c.saturating_sub.result) (l.at.offset + o) later) start after in
     let S : ℕ → Type 0 = λ n. WritesAllBut whole
@@ -104,7 +105,7 @@ loop-tail-preserved g c =
     start after in
     let T : ℕ → Type 0 = λ n. l.at.number + n + length later < 2 ^ 64 in
     let U : ℕ → Type 0 = λ n. l.at.number + c.saturating_sub.result + length (drop n (lines_in a.end ts)) < 2 ^ 64 in
-    let V : ℕ → Type 0 = λ n. l.at.offset + size + size_of (drop n (lines_in a.end ts)) < 2 ^ 64 in
+    let V : ℕ → Type 0 = λ n. l.at.offset + size + bytes_in (drop n (lines_in a.end ts)) < 2 ^ 64 in
     record {
       can_next = tt;
       is_finite = tt;
@@ -114,7 +115,7 @@ loop-tail-preserved g c =
       prefix = c.in_ok-size.ensures.same ∙ l.invariant.prefix;
       left = subst S skipped (subst O size_is (subst R shown (left_less whole
           (rows a.prefix.now l.at.number l.at.offset (drop l.skip (lines_in a.end l.tail-iterator)))
-          (rows a.prefix.now (l.at.number + (t.lines - l.skip)) (l.at.offset + size_of first) later)
+          (rows a.prefix.now (l.at.number + (t.lines - l.skip)) (l.at.offset + bytes_in first) later)
           (rows a.prefix.now l.at.number l.at.offset first) start middle after parted
           (subst P l.invariant.prefix c.in_ok-size.ensures.writes.ok) l.invariant.left)));
     }
@@ -139,7 +140,7 @@ write_from-requires-clause-fits g c =
     let ts = c.next.new.self in
     let Q : List (Tail g.row.A.Denot) → Type 0 = λ xs. AllByRecursion (IsTail a.end) xs in
     let each = subst Q c.in-Some.ensures.steps l.invariant.each in
-    let sized = ap (λ xs. size_of (drop l.skip (lines_in a.end xs))) c.in-Some.ensures.steps
+    let sized = ap (λ xs. bytes_in (drop l.skip (lines_in a.end xs))) c.in-Some.ensures.steps
     ∙ shown_size a.end l.skip t ts each.0 in
     let counted = ap (λ xs. length (drop l.skip (lines_in a.end xs))) c.in-Some.ensures.steps
     ∙ shown_count a.end l.skip t ts each.0 in
@@ -175,7 +176,7 @@ returns-clause-writes g c =
     let a = c.args in
     let l = c.loop-tail in
     let whole = marked_rows a.format.now a.end a.prefix.now 45 plain a.first.number a.first.offset
-    (keep_last a.count (held a.end a.self.now)) in
+    (keep_last a.count (lines_held a.end a.self.now)) in
     let rows = λ (ls : List (List ℕ)). marked_rows a.format.now a.end a.prefix.now 45 plain l.at.number l.at.offset ls
     in
     let none = ap (λ ts. rows (drop l.skip (lines_in a.end ts))) c.in-None.ensures.steps.0
@@ -194,6 +195,6 @@ overflow_add-at-in-loop-tail g c =
     let ts = c.next.new.self in
     let Q : List (Tail g.row.A.Denot) → Type 0 = λ xs. AllByRecursion (IsTail a.end) xs in
     let each = subst Q c.in-Some.ensures.steps l.invariant.each in
-    let sized = ap (λ xs. size_of (drop l.skip (lines_in a.end xs))) c.in-Some.ensures.steps
+    let sized = ap (λ xs. bytes_in (drop l.skip (lines_in a.end xs))) c.in-Some.ensures.steps
     ∙ shown_size a.end l.skip t ts each.0 in
     omega (arith, sized, l.invariant.placed, c.in_ok-size.ensures.size)

@@ -2,7 +2,7 @@ use Rattle.std.proofs.Common.{◌≡◌, ◌∙◌, ap, arith, length, map, refl
 use Rattle.std.specs.Arc.{arc_value}
 use Rattle.pg_selection.specs.Search.{SearchText, AreTreesOf, search_of, terminator_of}
 use Rattle.pg_rows.specs.declared.format.Format.{Format}
-use Rattle.pg_plan.specs.History.{start}
+use Rattle.pg_plan.specs.History.{past_at_start}
 use Rattle.pg_seq.specs.Standing.{IsAfter}
 use Rattle.pg_run.specs.Searches.{FindsLines}
 use Rattle.pg_run.proofs.HoldLemmas.{holds_new}
@@ -14,8 +14,8 @@ returns-clause-new g c = λ aim trees text set.
     let same : arc_value c.args.selector ≡ aim.query.text = sym text in
     let T : SearchText → Type 0 = λ t. AreTreesOf t aim.query.trees in
     let S : SearchText → Type 0 =
-    λ t. IsAfter c.in_ok-sequencer.sequencer (start (search_of t aim.query.trees) c.args.setup.format) in
-    let F : Format → Type 0 = λ f. IsAfter c.in_ok-sequencer.sequencer (start aim.query f) in
+    λ t. IsAfter c.in_ok-sequencer.sequencer (past_at_start (search_of t aim.query.trees) c.args.setup.format) in
+    let F : Format → Type 0 = λ f. IsAfter c.in_ok-sequencer.sequencer (past_at_start aim.query f) in
     let stands = subst S same (c.in_ok-sequencer.ensures aim.query.trees (subst T (sym same) trees)) in
     holds_new _ aim (
       subst (FindsLines view) same c.requires,

@@ -1,7 +1,7 @@
 use Rattle.std.proofs.Common.{◌≡◌, ℕ, List, false}
 use Rattle.pg_base.specs.Sink.{WritesAll}
 use Rattle.pg_plan.specs.History.{Past}
-use Rattle.pg_seq.specs.Standing.{IsAfter, wrote, left}
+use Rattle.pg_seq.specs.Standing.{IsAfter, wrote, steps_left}
 use Rattle.pg_seq.proofs.assembler.Assembler.drain.Given as goal
 
 abbrev pub invariant-loop-self : goal.invariant-loop-self
@@ -12,4 +12,4 @@ invariant-loop-self g l = record {
 }
 
 abbrev pub decreases-loop-self : goal.decreases-loop-self
-decreases-loop-self g l = left l.self
+decreases-loop-self g l = steps_left l.self

@@ -1,5 +1,5 @@
 use Rattle.std.proofs.Common.{length, ◌+◌, ◌-◌, ℕ, map, arith}
-use Rattle.pg_strings.specs.Keys.{items_of}
+use Rattle.pg_pattern.specs.Strings.{items_of}
 use Rattle.pg_strings.specs.Sets.{SomeHit, work}
 use Rattle.pg_strings.proofs.PlaceLemmas.{nowhere_joined, nowhere_at, no_hits, further, looked}
 use Rattle.pg_strings.proofs.set.StringSet.find_hit.Goals as goal

@@ -1,6 +1,6 @@
 use Rattle.std.proofs.Common.{◌≤◌, ◌+◌, ◌*◌, length, ◌-◌, map}
 use Rattle.memchr.specs.Find.{Nowhere}
-use Rattle.pg_strings.specs.Keys.{items_of}
+use Rattle.pg_pattern.specs.Strings.{items_of}
 use Rattle.pg_strings.specs.Sets.{SomeHit, work}
 use Rattle.pg_strings.proofs.set.StringSet.find_hit.Given as goal
 

@@ -1,7 +1,7 @@
 use Rattle.std.proofs.Common.{◌≡◌, ◌-◌, ◌<◌, ℕ, List, [], length, map, get_or, true, false, arith, refl, sym}
 use Rattle.std.proofs.Common.{subst, ap, ◌∙◌}
 use Rattle.std.proofs.lemmas.List.{length-map}
-use Rattle.pg_strings.specs.Keys.{items_of}
+use Rattle.pg_pattern.specs.Strings.{items_of}
 use Rattle.pg_strings.specs.Whole.{home_by, whole_home}
 use Rattle.pg_strings.proofs.WalkLemmas.{IsWalked, walk_first, walk_next, link_falls}
 use Rattle.pg_strings.proofs.PlaceLemmas.{string_at}

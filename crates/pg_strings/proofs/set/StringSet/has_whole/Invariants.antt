@@ -1,5 +1,5 @@
 use Rattle.std.proofs.Common.{◌≡◌, ◌≤◌, length, map}
-use Rattle.pg_strings.specs.Keys.{items_of}
+use Rattle.pg_pattern.specs.Strings.{items_of}
 use Rattle.pg_strings.specs.Whole.{whole_home}
 use Rattle.pg_strings.proofs.WalkLemmas.{IsWalked}
 use Rattle.pg_strings.proofs.set.StringSet.has_whole.Given as goal

@@ -1,6 +1,6 @@
 use Rattle.std.proofs.Common.{arith, sym, ◌∙◌, map, true}
 use Rattle.std.proofs.lemmas.List.{get_or_default}
-use Rattle.pg_strings.specs.Keys.{items_of}
+use Rattle.pg_pattern.specs.Strings.{items_of}
 use Rattle.pg_strings.proofs.PlaceLemmas.{unflagged}
 use Rattle.pg_strings.proofs.set.StringSet.is_flagged.Goals as goal
 

@@ -2,7 +2,8 @@ use Rattle.std.proofs.Common.{◌≡◌, ◌-◌, ◌<◌, ◌≤◌, ℕ, List,
 use Rattle.std.proofs.Common.{subst, get_or, ◌∙◌, inl, inr, drop}
 use Rattle.std.proofs.lemmas.Bool.{cases_lt}
 use Rattle.std.proofs.lemmas.List.{get_or_default, length-map}
-use Rattle.pg_strings.specs.Keys.{items_of, key, home}
+use Rattle.pg_strings.specs.Keys.{key, home}
+use Rattle.pg_pattern.specs.Strings.{items_of}
 use Rattle.pg_strings.specs.Sets.{StandsAs}
 use Rattle.pg_strings.proofs.WalkLemmas.{IsWalked, walk_first, walk_next, walk_ends, walk_weaker, link_falls}
 use Rattle.pg_strings.proofs.PlaceLemmas.{string_at}

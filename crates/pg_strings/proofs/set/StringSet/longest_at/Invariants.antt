@@ -1,5 +1,6 @@
 use Rattle.std.proofs.Common.{◌≤◌, ◌/◌, length, map}
-use Rattle.pg_strings.specs.Keys.{items_of, home}
+use Rattle.pg_strings.specs.Keys.{home}
+use Rattle.pg_pattern.specs.Strings.{items_of}
 use Rattle.pg_strings.specs.Sets.{StandsAs}
 use Rattle.pg_strings.specs.Short.{IsLongestShort}
 use Rattle.pg_strings.proofs.WalkLemmas.{IsWalked}

@@ -1,7 +1,7 @@
 use Rattle.std.proofs.Common.{◌<◌, length, map, inl, inr, arith, subst, sym, ◌∙◌}
 use Rattle.std.proofs.lemmas.Bool.{false≢true}
 use Rattle.std.proofs.lemmas.List.{get_or_default}
-use Rattle.pg_strings.specs.Keys.{items_of}
+use Rattle.pg_pattern.specs.Strings.{items_of}
 use Rattle.pg_strings.proofs.WholeLemmas.{IsLongestOf, longest_more, longest_later, longest_of_all}
 use Rattle.pg_strings.proofs.LongestLemmas.{some_bytes}
 use Rattle.pg_strings.proofs.set.StringSet.longest_whole.Goals as goal

@@ -1,5 +1,5 @@
 use Rattle.std.proofs.Common.{map}
-use Rattle.pg_strings.specs.Keys.{items_of}
+use Rattle.pg_pattern.specs.Strings.{items_of}
 use Rattle.pg_strings.specs.Whole.{IsPrefixHash}
 use Rattle.pg_strings.proofs.WholeLemmas.{IsLongestOf}
 use Rattle.pg_strings.proofs.set.StringSet.longest_whole.Given as goal

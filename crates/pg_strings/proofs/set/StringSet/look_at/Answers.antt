@@ -1,7 +1,8 @@
 use Rattle.std.proofs.Common.{◌≡◌, ◌+◌, ◌-◌, ◌<◌, ℕ, List, length, map, false, true, ◌/◌, arith, sym, ap, ◌∙◌}
 use Rattle.std.proofs.Common.{subst, get_or, []}
 use Rattle.std.proofs.lemmas.List.{get_or_default, length-map}
-use Rattle.pg_strings.specs.Keys.{items_of, home}
+use Rattle.pg_strings.specs.Keys.{home}
+use Rattle.pg_pattern.specs.Strings.{items_of}
 use Rattle.pg_strings.specs.Sets.{StandsAs}
 use Rattle.pg_strings.proofs.WalkLemmas.{IsWalked, walk_first, walk_next, walk_ends, link_falls}
 use Rattle.pg_strings.proofs.WalkLemmas.{spent_more, spent_all}

@@ -1,7 +1,8 @@
 use Rattle.std.proofs.Common.{◌≤◌, ◌+◌, ◌/◌, length, map, drop}
 use Rattle.std.specs.List.{sum_by}
 use Rattle.pg_strings.specs.Sets.{StandsAs}
-use Rattle.pg_strings.specs.Keys.{items_of, home}
+use Rattle.pg_strings.specs.Keys.{home}
+use Rattle.pg_pattern.specs.Strings.{items_of}
 use Rattle.pg_strings.proofs.WalkLemmas.{IsWalked}
 use Rattle.pg_strings.proofs.set.StringSet.look_at.Given as goal
 

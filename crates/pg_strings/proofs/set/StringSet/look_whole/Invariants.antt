@@ -1,6 +1,6 @@
 use Rattle.std.proofs.Common.{◌≤◌, ◌+◌, take, map}
 use Rattle.std.specs.List.{sum_by}
-use Rattle.pg_strings.specs.Keys.{items_of}
+use Rattle.pg_pattern.specs.Strings.{items_of}
 use Rattle.pg_strings.specs.Whole.{IsPrefixHash}
 use Rattle.pg_strings.proofs.WholeLemmas.{NoneOf}
 use Rattle.pg_strings.proofs.set.StringSet.look_whole.Given as goal

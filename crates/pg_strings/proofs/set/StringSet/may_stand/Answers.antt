@@ -1,5 +1,5 @@
 use Rattle.std.proofs.Common.{map}
-use Rattle.pg_strings.specs.Keys.{items_of}
+use Rattle.pg_pattern.specs.Strings.{items_of}
 use Rattle.pg_strings.proofs.ShortLemmas.{any_stands}
 use Rattle.std.proofs.lemmas.Bool.{or_parts}
 use Rattle.pg_strings.proofs.set.StringSet.may_stand.Goals as goal

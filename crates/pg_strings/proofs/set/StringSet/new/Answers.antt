@@ -1,5 +1,6 @@
 use Rattle.std.proofs.Common.{◌≡◌, ◌<◌, [], length, map, arith, sym, ap, ◌∙◌, subst, get_or, take}
-use Rattle.pg_strings.specs.Keys.{items_of, key, home, AreChains, AreFlagged, AreLong}
+use Rattle.pg_strings.specs.Keys.{key, home, AreChains, AreFlagged, AreLong}
+use Rattle.pg_pattern.specs.Strings.{items_of}
 use Rattle.pg_strings.specs.Short.{KnowsShort}
 use Rattle.pg_strings.specs.Whole.{KnowsWhole}
 use Rattle.std.proofs.lemmas.List.{length-map}

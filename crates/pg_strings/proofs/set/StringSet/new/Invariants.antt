@@ -1,5 +1,6 @@
 use Rattle.std.proofs.Common.{◌≡◌, length, map, take}
-use Rattle.pg_strings.specs.Keys.{AreChains, AreFlagged, home, items_of}
+use Rattle.pg_strings.specs.Keys.{AreChains, AreFlagged, home}
+use Rattle.pg_pattern.specs.Strings.{items_of}
 use Rattle.pg_strings.proofs.set.StringSet.new.Given as goal
 
 abbrev pub invariant-loop-place : goal.invariant-loop-place

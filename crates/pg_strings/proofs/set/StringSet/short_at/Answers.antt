@@ -1,5 +1,5 @@
 use Rattle.std.proofs.Common.{map}
-use Rattle.pg_strings.specs.Keys.{items_of}
+use Rattle.pg_pattern.specs.Strings.{items_of}
 use Rattle.pg_strings.proofs.ShortLemmas.{longest_none}
 use Rattle.pg_strings.proofs.set.StringSet.short_at.Goals as goal
 

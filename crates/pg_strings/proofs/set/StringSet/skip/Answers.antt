@@ -1,5 +1,5 @@
 use Rattle.std.proofs.Common.{map}
-use Rattle.pg_strings.specs.Keys.{items_of}
+use Rattle.pg_pattern.specs.Strings.{items_of}
 use Rattle.pg_strings.proofs.ShortLemmas.{all_long}
 use Rattle.pg_strings.proofs.set.StringSet.skip.Goals as goal
 

@@ -1,5 +1,5 @@
 use Rattle.std.proofs.Common.{◌+◌, ℕ, map, arith}
-use Rattle.pg_strings.specs.Keys.{items_of}
+use Rattle.pg_pattern.specs.Strings.{items_of}
 use Rattle.pg_strings.specs.Short.{SomeLongStands}
 use Rattle.pg_strings.proofs.PlaceLemmas.{nowhere_joined, nowhere_at, four_clear}
 use Rattle.pg_strings.proofs.set.StringSet.skip_long.Goals as goal

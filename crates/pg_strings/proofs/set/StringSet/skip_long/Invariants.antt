@@ -1,6 +1,6 @@
 use Rattle.std.proofs.Common.{◌≤◌, length, ◌-◌, map}
 use Rattle.memchr.specs.Find.{Nowhere}
-use Rattle.pg_strings.specs.Keys.{items_of}
+use Rattle.pg_pattern.specs.Strings.{items_of}
 use Rattle.pg_strings.specs.Short.{SomeLongStands}
 use Rattle.pg_strings.proofs.set.StringSet.skip_long.Given as goal
 

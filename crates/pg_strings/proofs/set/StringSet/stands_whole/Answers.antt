@@ -1,7 +1,7 @@
 use Rattle.std.proofs.Common.{◌≡◌, ◌+◌, ◌-◌, ◌∙◌, length, map, take, drop, arith, ap, sym, true, false, length-drop}
 use Rattle.std.proofs.lemmas.Bool.{false≢true}
 use Rattle.std.proofs.lemmas.List.{length-take-le}
-use Rattle.pg_strings.specs.Keys.{items_of}
+use Rattle.pg_pattern.specs.Strings.{items_of}
 use Rattle.pg_strings.proofs.WholeLemmas.{text_stands, so_fits}
 use Rattle.pg_strings.proofs.set.StringSet.stands_whole.Goals as goal
 

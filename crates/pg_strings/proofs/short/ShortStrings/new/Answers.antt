@@ -1,6 +1,6 @@
 use Rattle.std.proofs.Common.{◌≡◌, ◌<◌, ◌++◌, ◌∷◌, [], length, map, arith, sym, ap, ◌∙◌, subst, get_or, take}
 use Rattle.std.proofs.lemmas.List.{length-map, take_more}
-use Rattle.pg_strings.specs.Keys.{items_of}
+use Rattle.pg_pattern.specs.Strings.{items_of}
 use Rattle.pg_strings.specs.Short.{AreTables}
 use Rattle.pg_strings.proofs.PlaceLemmas.{string_at}
 use Rattle.pg_strings.proofs.short.ShortStrings.new.Goals as goal

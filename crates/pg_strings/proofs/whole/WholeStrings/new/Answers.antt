@@ -2,8 +2,8 @@ use Rattle.std.proofs.Common.{◌≡◌, ◌<◌, ◌++◌, ◌∷◌, [], lengt
 use Rattle.std.proofs.lemmas.List.{length-map, take_more}
 use Rattle.std.proofs.lemmas.List.Sorted.{IsNonDecreasingBy-from_sort}
 use Rattle.std.specs.List.{All}
-use Rattle.pg_strings.specs.Keys.{items_of}
-use Rattle.pg_strings.specs.Whole.{AreWhole, IsFlaggedAt}
+use Rattle.pg_pattern.specs.Strings.{items_of}
+use Rattle.pg_strings.specs.Whole.{AreIndexed, IsFlaggedAt}
 use Rattle.pg_strings.proofs.PlaceLemmas.{string_at, take_whole}
 use Rattle.pg_strings.proofs.WholeLemmas.{whole_moved}
 use Rattle.pg_strings.proofs.whole.WholeStrings.new.Goals as goal
@@ -18,7 +18,7 @@ loop-place-preserved g c =
     let string : get_or strings i [] ≡ c.deref.result.now =
     string_at vecs i c.index-strings-place.result few c.index-strings-place.is ∙ sym c.deref.ensures.value in
     let whole = c.push.new.self in
-    subst (λ xs. AreWhole whole.lengths.items whole.chains.first.items whole.chains.next.items xs)
+    subst (λ xs. AreIndexed whole.lengths.items whole.chains.first.items whole.chains.next.items xs)
     (ap (λ t. take i strings ++ t ∷ []) (sym string) ∙ sym (take_more strings i [] less))
     (c.in_ok-push.ensures (take i strings) c.loop-place.invariant)
 
@@ -37,7 +37,7 @@ returns g c =
     record {
       chains = whole_moved whole.lengths.items c.sort_unstable.new.self.items whole.chains.first.items
           whole.chains.next.items strings c.sort_unstable.ensures.permutation
-          (subst (λ xs. AreWhole whole.lengths.items whole.chains.first.items whole.chains.next.items xs) all
+          (subst (λ xs. AreIndexed whole.lengths.items whole.chains.first.items whole.chains.next.items xs) all
           c.loop-place.invariant);
       rises = IsNonDecreasingBy-from_sort (λ x. x) c.sort_unstable.new.self.items c.sort_unstable.ensures.sorted;
       all_flags = c.in_ok-whole.ensures.all;

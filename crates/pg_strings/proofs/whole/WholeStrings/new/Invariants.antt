@@ -1,5 +1,5 @@
 use Rattle.std.proofs.Common.{take, map}
-use Rattle.pg_strings.specs.Keys.{items_of}
+use Rattle.pg_pattern.specs.Strings.{items_of}
 use Rattle.pg_strings.specs.Whole.{HasChainsOf}
 use Rattle.pg_strings.proofs.whole.WholeStrings.new.Given as goal
 

@@ -2,7 +2,7 @@ use Rattle.std.proofs.Common.{◌≡◌, ◌++◌, ◌∷◌, [], length, map, t
 use Rattle.std.specs.Prelude.{nat_eq}
 use Rattle.std.specs.List.{list_any}
 use Rattle.pg_strings.specs.Keys.{AreChains}
-use Rattle.pg_strings.specs.Whole.{AreWhole, home_by, whole_home}
+use Rattle.pg_strings.specs.Whole.{AreIndexed, home_by, whole_home}
 use Rattle.pg_strings.proofs.WholeLemmas.{whole_more, one_more, LengthsOf}
 use Rattle.pg_strings.proofs.whole.WholeStrings.push.Goals as goal
 use Rattle.pg_strings.proofs.whole.WholeStrings.push.Goals.{then-not-contains+in_ok-push, else-not-contains}
@@ -20,7 +20,7 @@ returns g c = λ strings before.
           before.linked) in
           let more = one_more lengths (length string) in
           let new = subst (λ xs. LengthsOf lengths xs (length string)) (sym w.in_ok-push.ensures.items) more in
-          subst (λ s. AreWhole s.lengths.items chains.first.items chains.next.items (strings ++ string ∷ []))
+          subst (λ s. AreIndexed s.lengths.items chains.first.items chains.next.items (strings ++ string ∷ []))
           (sym w.self-is)
           (whole_more lengths w.push.new.self.items old.chains.first.items old.chains.next.items chains.first.items
           chains.next.items strings string c.chain_of.result before new
@@ -29,7 +29,7 @@ returns g c = λ strings before.
           let linked = c.in_ok-push-2.ensures (map whole_home strings) (subst
           (λ s. AreChains s.chains.first.items s.chains.next.items (map whole_home strings)) (sym w.self-is)
           before.linked) in
-          subst (λ s. AreWhole s.lengths.items chains.first.items chains.next.items (strings ++ string ∷ []))
+          subst (λ s. AreIndexed s.lengths.items chains.first.items chains.next.items (strings ++ string ∷ []))
           (sym w.self-is)
           (whole_more lengths lengths old.chains.first.items old.chains.next.items chains.first.items
           chains.next.items strings string c.chain_of.result before (
