@@ -173,6 +173,10 @@ def cases(folder, megabytes):
     for options in ("-o", "-oi", "-ow", "-cw"):
         ripgrep = None if "w" in options else ["-F", options, "-f", "known-and-empty"]
         yield Case(["-F", options, "-f", "known-and-empty"], "prose", ripgrep)
+    # And with an expression that isn't a string.
+    write(folder / "known-and-sets", (folder / "known-2000").read_bytes() + b"tone[0-9][0-9]*\n")
+    for options in ("-c", "-ci", "-vc", "-o", "-cw"):
+        yield Case([options, "-f", "known-and-sets"], "prose", [options, "-f", "known-and-sets"])
     for name, chosen in (("known", texts.known(words, 200)), ("frequent", words[:200]), ("rare", words[-200:])):
         write(folder / f"expressions-{name}", "".join(f"{word}[0-9]+x\n" for word in chosen).encode())
         yield Case(["-cE", "-f", f"expressions-{name}"], "prose", ["-c", "-f", f"expressions-{name}"])

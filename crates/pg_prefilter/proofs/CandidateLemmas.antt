@@ -21,7 +21,8 @@ use Rattle.pg_prefilter.specs.declared.candidate.NextLine.TheVariants.{Found, No
 use Rattle.pg_blocks.specs.declared.span.Span.{Span}
 use Rattle.pg_prefilter.proofs.HitLemmas.{without_missed, held_hit}
 use Rattle.pg_blocks.proofs.LineLemmas.{lines-append, whole_append}
-use Rattle.pg_prefilter.proofs.LineLemmas.{line_found, line_unselected, line_passed, all_lines-append, all_back}
+use Rattle.pg_prefilter.proofs.LineLemmas.{line_among, line_found, line_unselected, line_passed, all_lines-append}
+use Rattle.pg_prefilter.proofs.LineLemmas.{all_back}
 
 pub all_more : (P Q : List ℕ → Type 0) (ls : List (List ℕ)) → ((l : List ℕ) → P l → Q l) → AllByRecursion P ls
     → AllByRecursion Q ls
@@ -281,18 +282,7 @@ module _ (text : SearchText) (at : ℕ) (bytes : List ℕ) (found : Candidate)
   -- the line among the bytes
   pub first_line : lines E (slice_range bytes found.line.start found.line.end)
       ≡ text_found text at rest found first ∷ []
-  first_line =
-      let is = first.is in
-      let len : found.line.end - found.line.start ≡ length is.text = omega (arith, first.starts, first.ends, is.len) in
-      let from : drop found.line.start bytes ≡ is.text ++ is.later =
-      ap (λ n. drop n bytes) first.starts
-      ∙ (sym (drop-drop first.s at bytes)
-      ∙ (ap (drop first.s) (is.joins ∙ append_assoc (take first.s rest) is.text is.later)
-      ∙ drop_at (take first.s rest) (is.text ++ is.later) first.s is.front)) in
-      let slice : slice_range bytes found.line.start found.line.end ≡ is.text =
-      ap (λ n. take n (drop found.line.start bytes)) len
-      ∙ (ap (take (length is.text)) from ∙ take_at is.text is.later (length is.text) refl) in
-      ap (lines E) slice ∙ is.one
+  first_line = line_among E at bytes first.s first.e first.stop found.line first.is first.starts first.ends
 
 -- the line that was found, and what was cut out as its text
 pub found_text : (text : SearchText) (at : ℕ) (bytes : List ℕ) (found : Candidate) (end : ℕ) (cut : List ℕ)

@@ -3,7 +3,7 @@ use Rattle.std.proofs.Common.{Bor, ◌≡◌, ◌<◌, ◌≤◌, ◌+◌, ◌-�
 use Rattle.std.proofs.Common.{None}
 use Rattle.std.proofs.Common.{List, length, take, drop, slice_range, refl, sym, ap, ◌∙◌, subst, arith, length-drop}
 use Rattle.std.specs.Option.{IfSome, IsSomeAnd}
-use Rattle.std.proofs.lemmas.List.{take-map, take-take, take_rest, drop-drop, length-take-le}
+use Rattle.std.proofs.lemmas.List.{take-take, take_rest, drop-drop, length-take-le}
 use Rattle.pg_literal.specs.Literals.{as_searched}
 use Rattle.pg_strings.specs.Outcomes.{strings_of}
 use Rattle.pg_selection.specs.Search.{SearchText}
@@ -14,12 +14,7 @@ use Rattle.pg_literal.specs.declared.suffix.LineSuffix.{LineSuffix}
 use Rattle.pg_strings.specs.declared.set.StringSet.{StringSet}
 use Rattle.pg_prefilter.specs.declared.strings.BlockJudge.{BlockJudge}
 use Rattle.pg_prefilter.specs.declared.strings.NearText.{NearText}
-use Rattle.pg_prefilter.proofs.NeedleLemmas.{searched_behind, searched_length}
-
--- the front of a line, as it is searched
-pub take_searched : (fold : Bool) (n : ℕ) (xs : List ℕ) → take n (as_searched fold xs) ≡ as_searched fold (take n xs)
-take_searched false n xs = refl
-take_searched true n xs = take-map _ n xs
+use Rattle.pg_prefilter.proofs.NeedleLemmas.{cut_searched, searched_length}
 
 module _ {A : Type 0} (text : SearchText) (bytes : List ℕ) (strings : BlockJudge A)
     (are : IsBlockJudge text bytes strings) (line : List ℕ) (at : ℕ) where
@@ -31,13 +26,9 @@ module _ {A : Type 0} (text : SearchText) (bytes : List ℕ) (strings : BlockJud
     searched = λ reads.
         let searched = strings.searched.now in
         let folded = are.searched reads in
-        let behind = searched_behind text.fold bytes searched at folded (omega (arith, within)) in
-        let long = searched_length text.fold bytes searched folded in
-        let size : at + length line - at ≡ length line = omega arith in (
+        let long = searched_length text.fold bytes searched folded in (
           omega (arith, within, long),
-          ap (λ n. take n (drop at searched)) size
-              ∙ (ap (take (length line)) behind
-              ∙ (take_searched text.fold (length line) (drop at bytes) ∙ ap (as_searched text.fold) (sym is))),
+          cut_searched text.fold bytes searched at line folded (omega (arith, within)) is,
         );
   }
 

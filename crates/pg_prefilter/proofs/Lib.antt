@@ -1,4 +1,5 @@
 pub mod CandidateLemmas
+pub mod EnoughLemmas
 pub mod FixedLemmas
 pub mod HitLemmas
 pub mod JudgeLemmas

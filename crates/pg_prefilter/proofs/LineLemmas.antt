@@ -1,7 +1,7 @@
 -- Lines of some bytes: which one a place is in, which hold a text, and which is the first that is selected.
 use Rattle.std.proofs.Common.{◌≡◌, ℕ, zero, suc, ◌+◌, ◌-◌, ◌<◌, ◌≤◌, ◌⊎◌, inl, inr, Bool, true, false}
 use Rattle.std.proofs.Common.{List, [], ◌∷◌, ◌++◌, length, take, drop, get_or, refl, sym, ap, ◌∙◌, subst, arith}
-use Rattle.std.proofs.Common.{append_assoc, length-append, length-drop}
+use Rattle.std.proofs.Common.{append_assoc, length-append, length-drop, slice_range}
 use Rattle.std.specs.List.{AllByRecursion, Contains}
 use Rattle.std.proofs.lemmas.Bool.{cases_lt}
 use Rattle.std.proofs.lemmas.List.{take-append-drop, drop_at, length-take-le, get_or-take, get_or-drop, get_or_default}
@@ -235,6 +235,23 @@ line_at end bytes s e stop low high longer clear stops =
     regroup xs ys b zs =
         append_assoc xs ys (b ∷ zs)
         ∙ (ap (λ t. xs ++ t) (sym (append_assoc ys (b ∷ []) zs)) ∙ sym (append_assoc xs (ys ++ b ∷ []) zs))
+
+-- a line among the bytes
+pub line_among : (end at : ℕ) (bytes : List ℕ) (s e stop : ℕ) (line : Span) → IsLineAt end (drop at bytes) s e stop
+    → line.start ≡ at + s → line.end ≡ at + stop
+    → lines end (slice_range bytes line.start line.end) ≡ take (e - s) (drop s (drop at bytes)) ∷ []
+line_among end at bytes s e stop line is starts ends =
+    let rest = drop at bytes in
+    let len : line.end - line.start ≡ length is.text = omega (arith, starts, ends, is.len) in
+    let from : drop line.start bytes ≡ is.text ++ is.later =
+    ap (λ n. drop n bytes) starts
+    ∙ (sym (drop-drop s at bytes)
+    ∙ (ap (drop s) (is.joins ∙ append_assoc (take s rest) is.text is.later)
+    ∙ drop_at (take s rest) (is.text ++ is.later) s is.front)) in
+    let slice : slice_range bytes line.start line.end ≡ is.text =
+    ap (λ n. take n (drop line.start bytes)) len
+    ∙ (ap (take (length is.text)) from ∙ take_at is.text is.later (length is.text) refl) in
+    ap (lines end) slice ∙ is.one
 
 -- The first selected line: whole lines before it of which none is selected.
 pub line_found : (q : Search) (bytes : List ℕ) (at s e stop : ℕ) (line : Span) → IsLineAt (terminator q) bytes s e stop

@@ -1,5 +1,5 @@
 -- Bytes among which no literal stands.
-use Rattle.std.proofs.Common.{◌≡◌, ◌<◌, ℕ, false, Option, None, Some, List, length, map, sym, ap, subst, arith}
+use Rattle.std.proofs.Common.{◌≡◌, ◌<◌, ℕ, true, false, length-append, Option, None, Some, List, length, map, sym, ap, subst, arith}
 use Rattle.std.proofs.lemmas.List.{length-map}
 use Rattle.std.specs.List.{All}
 use Rattle.std.proofs.lemmas.List.Elements.{All-contains, All-map}
@@ -14,10 +14,12 @@ use Rattle.pg_literal.proofs.FoldLemmas.{length_searched}
 use Rattle.pg_blocks.specs.Lines.{lines}
 use Rattle.pg_selection.specs.Search.{SearchText, Pattern, AreTreesOf, search_of, uninverted, terminator_of}
 use Rattle.pg_selection.specs.Runs.{AllLines}
+use Rattle.pg_prefilter.specs.Enough.{strings_if_some}
 use Rattle.pg_prefilter.specs.Literals.{LiteralData, data_of, flagged, set_literals, AreLiterals}
 use Rattle.pg_prefilter.specs.Strings.{IsSetOf}
 use Rattle.pg_prefilter.specs.declared.literal_set.LiteralSet.{LiteralSet}
 use Rattle.pg_prefilter.proofs.CandidateLemmas.{missed_without}
+use Rattle.pg_prefilter.proofs.EnoughLemmas.{among_all}
 use Rattle.pg_prefilter.proofs.NeedleSetLemmas.{nowhere_behind}
 use Rattle.pg_prefilter.proofs.LineLemmas.{nowhere_lines, without_each}
 
@@ -51,6 +53,8 @@ module _ (text : SearchText) (bytes searched : List ℕ) (is : searched ≡ as_s
       let are = known.0 in
       let in_set = set.some in
       let size = length-map (strings_of set.strings) (flagged set.is_enough) in
-      missed_without text (set_literals set) are (omega (arith, in_set, size)) bytes
-      (nowhere_behind text.fold bytes searched 0 (strings_of set.strings) set.is_enough is
+      let more = strings_if_some set.enough in
+      let all = length-append (map (flagged set.is_enough) (strings_of set.strings)) (map (flagged true) more) in
+      missed_without text (set_literals set) are (omega (arith, in_set, size, all)) bytes
+      (nowhere_behind text.fold bytes searched 0 (strings_of set.strings) more set.is_enough (among_all (strings_of set.strings) more set.among) is
       (omega (arith, some, ap length is, length_searched text.fold bytes)) (terminator_of text) none) trees spelled

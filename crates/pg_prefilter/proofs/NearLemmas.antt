@@ -21,8 +21,8 @@ use Rattle.pg_selection.specs.Search.{SearchText, Pattern, Bounds, AreTreesOf, b
 use Rattle.pg_selection.proofs.TreeLemmas.{same_trees}
 use Rattle.pg_prefilter.specs.Strings.{HitsIgnoreFront, IsNear, IsTextReach, FindsPart}
 use Rattle.pg_prefilter.specs.declared.strings.NextString.TheVariants.{Nowhere, Behind}
-use Rattle.pg_prefilter.proofs.JudgeLemmas.{take_searched}
 use Rattle.pg_prefilter.proofs.NeedleLemmas.{next_none, next_some, occurs_whole, searched_behind}
+use Rattle.pg_prefilter.proofs.NeedleLemmas.{take_searched}
 
 module _ (text : SearchText) (near : List ℕ) (before : ℕ) (is : IsNear text near before) (searched line : List ℕ)
     (from : ℕ) (same : searched ≡ as_searched text.fold line) (within : from ≤ length searched) where

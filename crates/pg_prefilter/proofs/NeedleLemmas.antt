@@ -2,11 +2,11 @@
 use Rattle.std.proofs.Common.{◌≡◌, ◌<◌, ◌≤◌, ◌+◌, ◌-◌, ◌⊎◌, ℕ, zero, suc, Bool, true, false, Option, Some, None, inl}
 use Rattle.std.proofs.Common.{inr}
 use Rattle.std.proofs.Common.{List, [], ◌∷◌, length, get_or, set, map, take, drop, cond, refl, sym, ap, ◌∙◌, subst}
-use Rattle.std.proofs.Common.{arith, length-drop}
+use Rattle.std.proofs.Common.{arith, length-drop, slice_range}
 use Rattle.std.specs.Option.{IfNone, IfSome, IsSomeAnd}
 use Rattle.std.specs.List.{All, Any, Contains}
 use Rattle.std.proofs.lemmas.Bool.{cases_lt}
-use Rattle.std.proofs.lemmas.List.{drop_at, length-take-le, take-append-drop, length-map}
+use Rattle.std.proofs.lemmas.List.{drop_at, length-take-le, take-append-drop, take-map, length-map}
 use Rattle.std.proofs.lemmas.List.{get_or-drop, get_or-map, get_or_default}
 use Rattle.std.proofs.lemmas.List.Elements.{All-weaker, All-contains}
 use Rattle.memchr.specs.Find.{OccursAt, FindsNeedle}
@@ -87,6 +87,21 @@ searched_behind fold bytes searched at is within =
     ∙ searched_append fold (take at bytes) (drop at bytes)))
     ∙ drop_at (as_searched fold (take at bytes)) (as_searched fold (drop at bytes)) at
     (length_searched fold (take at bytes) ∙ length-take-le at bytes within)
+
+-- the front of a line, as it is searched
+pub take_searched : (fold : Bool) (n : ℕ) (xs : List ℕ) → take n (as_searched fold xs) ≡ as_searched fold (take n xs)
+take_searched false n xs = refl
+take_searched true n xs = take-map _ n xs
+
+-- a line that stands at a place, as it is searched
+pub cut_searched : (fold : Bool) (bytes searched : List ℕ) (at : ℕ) (line : List ℕ) → searched ≡ as_searched fold bytes
+    → at ≤ length bytes → line ≡ take (length line) (drop at bytes)
+    → slice_range searched at (at + length line) ≡ as_searched fold line
+cut_searched fold bytes searched at line is within same =
+    let size : at + length line - at ≡ length line = omega arith in
+    ap (λ n. take n (drop at searched)) size
+    ∙ (ap (take (length line)) (searched_behind fold bytes searched at is within)
+    ∙ (take_searched fold (length line) (drop at bytes) ∙ ap (as_searched fold) (sym same)))
 
 -- as many bytes are searched as there are
 pub searched_length : (fold : Bool) (bytes searched : List ℕ) → searched ≡ as_searched fold bytes

@@ -1,3 +1,4 @@
+pub mod Enough
 pub mod Literals
 pub mod Fixed
 pub mod Strings

@@ -1,5 +1,5 @@
 -- What texts tell of the lines in which a search has a hit.
-use Rattle.std.specs.Prelude.{◌≡◌, ◌<◌, List, ℕ, Bool, true, IsTrue, length, map, Option, None, Some}
+use Rattle.std.specs.Prelude.{◌≡◌, ◌<◌, List, ◌++◌, ℕ, Bool, true, IsTrue, length, map, Option, None, Some}
 use Rattle.std.specs.Borrow.{Bor}
 use Rattle.std.specs.List.{All, Any}
 use Rattle.pg_literal.specs.Literals.{Holds}
@@ -8,6 +8,7 @@ use Rattle.pg_literal.specs.Rows.{StandsAt, row_along}
 use Rattle.pg_literal.specs.declared.literal.Literal.{Literal}
 use Rattle.pg_literal.specs.declared.row_finder.RowFinder.{RowFinder}
 use Rattle.pg_strings.specs.Outcomes.{strings_of}
+use Rattle.pg_prefilter.specs.Enough.{strings_if_some}
 use Rattle.pg_prefilter.specs.declared.literal_set.LiteralSet.{LiteralSet}
 use Rattle.pg_blocks.specs.Lines.{IsLine}
 use Rattle.pg_selection.specs.Search.{SearchText, Pattern, AreTreesOf, bounds_of, search_of, terminator_of}
@@ -25,9 +26,10 @@ data_of literal = record { text = literal.text.items; is_enough = literal.is_eno
 abbrev pub flagged : Bool → List ℕ → LiteralData
 flagged is_enough text = record { text = text; is_enough = is_enough }
 
--- the literals of a set, which have one flag
+-- the literals of a set, which have one flag, and those that are enough though not all are
 abbrev pub set_literals : {A : Type 0} → LiteralSet A → List LiteralData
-set_literals set = map (flagged set.is_enough) (strings_of set.strings)
+set_literals set =
+    map (flagged set.is_enough) (strings_of set.strings) ++ map (flagged true) (strings_if_some set.enough)
 
 -- the literals of a set, if there is one, or else those of a list
 abbrev pub literals_given : {A : Type 0} → Option (Bor (LiteralSet A)) → List (Literal A) → List LiteralData

@@ -3,6 +3,7 @@ ghost use Rattle.std.specs.Prelude.{◌≡◌, ◌⊎◌, ◌<◌, ◌≤◌, []
 ghost use Rattle.std.specs.List.{All};
 ghost use Rattle.pg_pattern.specs.Strings.{items_of};
 ghost use Rattle.pg_strings.specs.Outcomes.{strings_of};
+ghost use Rattle.pg_prefilter.specs.Enough.{AreSomeOf, IsOneEnough, strings_if_some};
 
 use pg_literal::{FEW_TEXTS, Literal};
 use pg_pattern::Bounds;
@@ -27,11 +28,14 @@ pub struct LiteralSet<A: Allocator = Global> {
     pub strings: StringSet<A>,
     /// Each of them is enough: a line that holds it has a hit.
     pub is_enough: bool,
+    /// Those that are enough, where some are and others aren't.
+    pub(crate) enough: Option<StringSet<A>>,
     /// They are what all patterns of the query spell, each of which is bytes one behind the other.
     pub is_fixed: bool,
     /// The automaton of the query's patterns is small: its cache holds all sets of its states.
     has_small_automaton: bool,
     ghost some: { 0 < length (strings_of strings) },
+    ghost among: { AreSomeOf (strings_of strings) (strings_if_some enough) },
 }
 
 /// Copies of the texts of literals.
@@ -76,6 +80,38 @@ fn are_all_enough<A: Allocator>(literals: &[Literal<A>]) -> bool
     literals.iter().all(|literal| literal.is_enough)
 }
 
+/// Copies of the texts of those literals that are enough.
+fn copies_of_enough<A: Allocator + Copy>(
+    alloc: A,
+    literals: &[Literal<A>],
+) -> Result<Vec<Vec<u8, A>, A>, AllocError>
+    ensures { IfOk result (λ copies. All (λ copy. IsOneEnough literals.now copy.items) copies.items) }
+{
+    let mut texts = Vec::new(alloc);
+    for literal in literals {
+        if literal.is_enough {
+            texts.push(literal.text.to_vec(alloc)?)?;
+        }
+    }
+    Ok(texts)
+}
+
+/// The set of those literals that are enough, where some are and others aren't. None of the literals is empty.
+fn enough_of<A: Allocator + Copy>(
+    alloc: A,
+    literals: &[Literal<A>],
+) -> Result<Option<StringSet<A>>, AllocError>
+    requires { All (λ literal. 1 ≤ length literal.text.items) literals.now }
+    ensures { IfOk result (λ found. All (IsOneEnough literals.now) (strings_if_some found)) }
+{
+    let is_mixed = !are_all_enough(literals) && literals.iter().any(|literal| literal.is_enough);
+    if !is_mixed {
+        return Ok(None);
+    }
+    let set = StringSet::new(alloc, copies_of_enough(alloc, literals)?)?;
+    Ok(Some(set))
+}
+
 impl<A: Allocator + Copy> LiteralSet<A> {
     /// The set of more than 8 literals, unless one is empty, with a flag that says whether they are what all patterns
     /// spell, each of which is bytes one behind the other. Words of one or two bytes have none: they stand nearly
@@ -90,6 +126,8 @@ impl<A: Allocator + Copy> LiteralSet<A> {
             ≡ map (λ literal. literal.text.items) literals.now)) }
         ensures enough { IfOk result (λ found. IfSome found (λ set. IsTrue set.is_enough
             → All (λ literal. IsTrue literal.is_enough) literals.now)) }
+        ensures some_enough { IfOk result (λ found. IfSome found
+            (λ set. All (IsOneEnough literals.now) (strings_if_some set.enough))) }
         ensures fixed { IfOk result (λ found. IfSome found (λ set. set.is_fixed ≡ is_fixed)) }
     {
         let are_dense = bounds == Bounds::Word && are_all_short(literals);
@@ -98,10 +136,12 @@ impl<A: Allocator + Copy> LiteralSet<A> {
         }
         let strings = StringSet::new(alloc, copies_of(alloc, literals)?)?;
         let is_enough = are_all_enough(literals);
+        let enough = enough_of(alloc, literals)?;
         let has_small_automaton = is_fixed && have_few_bytes(literals);
         Ok(Some(LiteralSet {
             strings,
             is_enough,
+            enough,
             is_fixed,
             has_small_automaton,
         }))

@@ -41,7 +41,8 @@ returns g c =
       set = set_is text c.deref.result.now c.in_ok-literal_set.literal_set c.are_strings-is_fixed.result fixed
           c.in_ok-literal_set.ensures.strings c.in_ok-literal_set.ensures.fixed
           (prepared_are text c.deref.result.now c.in_ok-literal_set.literal_set seen
-          c.in_ok-literal_set.ensures.strings c.in_ok-literal_set.ensures.enough);
+          c.in_ok-literal_set.ensures.strings c.in_ok-literal_set.ensures.enough
+          c.in_ok-literal_set.ensures.some_enough);
       non_empty = tt;
       suffix = c.in_ok-suffix.ensures;
       front = c.ignores_front-ignores_front.ensures;

@@ -31,7 +31,8 @@ returns g c =
       set = set_is text c.deref.result.now c.in_ok-literal_set.literal_set true (λ _. fixed)
           c.in_ok-literal_set.ensures.strings c.in_ok-literal_set.ensures.fixed
           (prepared_are text c.deref.result.now c.in_ok-literal_set.literal_set seen
-          c.in_ok-literal_set.ensures.strings c.in_ok-literal_set.ensures.enough);
+          c.in_ok-literal_set.ensures.strings c.in_ok-literal_set.ensures.enough
+          c.in_ok-literal_set.ensures.some_enough);
       non_empty = c.in_ok-non_empty.ensures;
       suffix = tt;
       front = λ set. absurd (false≢true set);
